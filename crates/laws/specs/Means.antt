@@ -1,0 +1,6 @@
+-- The contract of a function that hands back a state: the result means m, and is well formed.
+use mathlib.Core.Path.{_≡_}
+
+pub record Means {A B : Type 0} (view : A → B) (Ok : A → Type 0) (r : A) (m : B) : Type 0 where
+  pub is : view r ≡ m
+  pub ok : Ok r

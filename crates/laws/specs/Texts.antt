@@ -1,0 +1,52 @@
+-- A text is a list of bytes. A quoted text stands for its bytes in UTF-8; digits are those that Rust's format! writes.
+use Prim.Native.Nat.{ℕ, zero, suc, _+_, _/_, _%_}
+use Prim.Native.String.{String, [] as end, _∷_ as _then_}
+use Prim.Native.Char.{Char, code}
+use mathlib.Core.Bool.{Bool, true, false, cond, _&&_}
+use mathlib.Core.List.{List, [], _∷_, _++_}
+use lib.Dec.{eqb, ltb}
+
+abbrev pub Text : Type 0
+Text = List ℕ
+
+-- The bytes of a character below 2^16 in UTF-8.
+unfoldable pub utf8 : ℕ → Text
+utf8 c =
+    cond (ltb c 128) (c ∷ [])
+    (cond (ltb c 2048) ((192 + c / 64) ∷ (128 + c % 64) ∷ [])
+    ((224 + c / 4096) ∷ (128 + c / 64 % 64) ∷ (128 + c % 64) ∷ []))
+
+unfoldable pub bytes : String → Text
+unfolding utf8
+bytes end = []
+bytes (c then s) = utf8 (code c) ++ bytes s
+
+-- Two texts, byte by byte.
+unfoldable pub same : Text → Text → Bool
+same [] [] = true
+same [] (y ∷ ys) = false
+same (x ∷ xs) [] = false
+same (x ∷ xs) (y ∷ ys) = eqb x y && same xs ys
+
+-- A digit: 0 to 9, then capitals.
+unfoldable pub digit : ℕ → ℕ
+digit d = cond (ltb d 10) (48 + d) (55 + d)
+
+-- n in a base of 2 to 16, without leading zeros, before the digits that stand. The fuel is the most digits but one.
+unfoldable pub digits-before : ℕ → ℕ → ℕ → Text → Text
+digits-before base zero n tail = digit (n % base) ∷ tail
+digits-before base (suc fuel) n tail =
+    elim (ltb n base) [ true ↦ digit (n % base) ∷ tail | false ↦ digits-before base fuel (n / base) (digit (n % base) ∷ tail) ]
+
+-- {n} of a 64-bit number
+unfoldable pub decimal : ℕ → Text
+decimal n = digits-before 10 19 n []
+
+-- {n:X} of a 64-bit number
+unfoldable pub hexadecimal : ℕ → Text
+hexadecimal n = digits-before 16 15 n []
+
+-- All of these unfold where a line says `unfolding texts`.
+unfoldable pub texts : Unit {0}
+unfolding utf8 bytes same digit digits-before decimal hexadecimal
+texts = tt

@@ -1,0 +1,15 @@
+pub mod Config
+pub mod Op
+pub mod Registers
+pub mod Timeline
+pub mod Traces
+pub mod Units
+pub mod State
+pub mod Write
+pub mod Issue
+pub mod Scoreboard
+pub mod Views
+pub mod Requests
+pub mod Calls
+pub mod RustTimeline
+pub mod Everything

@@ -1,0 +1,2 @@
+// The engine as definitions: see specs/. There is no code here.
+pub fn nothing() {}
