@@ -11,6 +11,11 @@ abbrev pub All : {A : Type 0} → (A → Type 0) → List A → Type 0
 All P [] = Unit {0}
 All P (x ∷ xs) = P x × All P xs
 
+-- r holds of each pair of elements that stand at one place, and the lists are equally long.
+pub data All2 {A B : Type 0} (r : A → B → Type 0) : List A → List B → Type 0 where
+  none2 : All2 r [] []
+  more2 : {a : A} {b : B} {as' : List A} {bs : List B} → r a b → All2 r as' bs → All2 r (a ∷ as') (b ∷ bs)
+
 module _ {A : Type 0} where
   -- The element at a place.
   unfoldable pub nth : List A → ℕ → Option A

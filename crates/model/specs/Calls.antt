@@ -59,7 +59,7 @@ use Rattle.model.specs.Views.{
   station-view,
   claims,
 }
-use Rattle.model.specs.Requests.{Request, status-message, text-at, short-for}
+use Rattle.model.specs.Requests.{Request, text-at, short-for, buffer-with}
 
 -- ── Calls ───────────────────────────────────────────────────────────────────
 
@@ -344,6 +344,10 @@ after s c = when-some (refusal s c) (run s c) (λ (n : ℕ). s)
 unfoldable pub memory-after : State → Call → List ℕ → List ℕ
 memory-after s c m = when-some (refusal s c) (write-all (sets s c) m) (λ (n : ℕ). m)
 
+-- The buffer lent with a text request after it.
+unfoldable pub buffer-after : State → Request → List ℕ → List ℕ
+buffer-after s t lent = when-some (refusal s (text t (length lent))) (buffer-with (text-at s t) lent) (λ (n : ℕ). lent)
+
 unfoldable pub looked-by : State → Call → Option Op
 looked-by s c = when-some (refusal s c) (looked s c) (λ (n : ℕ). none)
 
@@ -365,5 +369,5 @@ memories s m (c ∷ cs) = memories (after s c) (memory-after s c m) cs
 unfoldable pub calls : Unit {0}
 unfolding first-of too-big bad-byte bad-text bad-spec-name bad-info extra-overflows no-offer unsettled too-many names-in names-with
     short-memory make-checks checks make-refusal refusal make memory-made make-memory show run invitation-of reply looked sets answer after
-    memory-after looked-by looks runs memories
+    memory-after buffer-after looked-by looks runs memories
 calls = tt

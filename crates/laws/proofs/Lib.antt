@@ -1,0 +1,3 @@
+pub mod Choices
+pub mod Same
+pub mod Maps
