@@ -1,3 +1,11 @@
 pub mod Choices
 pub mod Same
 pub mod Maps
+pub mod Tests
+pub mod Slices
+pub mod Search
+pub mod Map
+pub mod Kept
+pub mod Shift
+pub mod Copy
+pub mod Digits

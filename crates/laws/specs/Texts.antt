@@ -1,5 +1,6 @@
 -- A text is a list of bytes. A quoted text stands for its bytes in UTF-8; digits are those that Rust's format! writes.
 use Prim.Native.Nat.{ℕ, zero, suc, _+_, _/_, _%_}
+use Prim.Native.Nat.{_*_, _-_}
 use Prim.Native.String.{String, [] as end, _∷_ as _then_}
 use Prim.Native.Char.{Char, code}
 use mathlib.Core.Bool.{Bool, true, false, cond, _&&_}
@@ -45,6 +46,18 @@ decimal n = digits-before 10 19 n []
 -- {n:X} of a 64-bit number
 unfoldable pub hexadecimal : ℕ → Text
 hexadecimal n = digits-before 16 15 n []
+
+-- What a digit stands for.
+unfoldable pub digit-value : ℕ → ℕ
+digit-value c = cond (ltb c 58) (c - 48) (c - 55)
+
+-- The number that digits in a base denote, read on from n.
+unfoldable pub value-from : ℕ → ℕ → Text → ℕ
+value-from base n [] = n
+value-from base n (c ∷ t) = value-from base (n * base + digit-value c) t
+
+unfoldable pub value : ℕ → Text → ℕ
+value base t = value-from base 0 t
 
 -- All of these unfold where a line says `unfolding texts`.
 unfoldable pub texts : Unit {0}
