@@ -1,0 +1,23 @@
+-- Each arm returns the number of its case.
+use borrow.Author.Needs.{needs}
+use Rattle.capability.specs.Numbers.{entry-number}
+use Rattle.capability.proofs.PipelineEntryPhase.number.Statement.{statement}
+use Rattle.capability.proofs.PipelineEntryPhase.number.Tie as tie
+
+pub number-spec : {M : Type 1} → statement M
+unfolding entry-number
+number-spec =
+    tie.close
+    (tie.spec
+    (λ c. search needs)
+    (λ c. search needs)
+    (λ c. search needs)
+    (λ c. search needs)
+    (λ c. search needs)
+    (λ c. search needs)
+    (λ c. search needs)
+    (λ c. search needs)
+    (λ c. search needs)
+    (λ c. search needs)
+    (λ c. search needs)
+    (λ c. search needs))

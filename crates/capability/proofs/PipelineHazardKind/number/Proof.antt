@@ -1,0 +1,25 @@
+-- Each arm returns the number of its case.
+use borrow.Author.Needs.{needs}
+use Rattle.capability.specs.Numbers.{hazard-number}
+use Rattle.capability.proofs.PipelineHazardKind.number.Statement.{statement}
+use Rattle.capability.proofs.PipelineHazardKind.number.Tie as tie
+
+pub number-spec : {M : Type 1} → statement M
+unfolding hazard-number
+number-spec =
+    tie.close
+    (tie.spec
+    (λ c. search needs)
+    (λ c. search needs)
+    (λ c. search needs)
+    (λ c. search needs)
+    (λ c. search needs)
+    (λ c. search needs)
+    (λ c. search needs)
+    (λ c. search needs)
+    (λ c. search needs)
+    (λ c. search needs)
+    (λ c. search needs)
+    (λ c. search needs)
+    (λ c. search needs)
+    (λ c. search needs))

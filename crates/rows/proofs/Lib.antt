@@ -1,0 +1,10 @@
+pub mod Bytes
+pub mod Places
+pub mod Row
+pub mod Push
+pub mod Holds
+pub mod Declared
+pub mod Labels
+pub mod Steps
+pub mod Memory
+pub mod Shown
