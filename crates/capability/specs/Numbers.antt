@@ -1,7 +1,5 @@
 -- The number of each case of each enum: its place in the Rust's declaration.
-use Prim.Native.Nat.{ℕ, _+_}
-use mathlib.Core.Bool.{Bool}
-use lib.Dec.{eqb}
+use Prim.Native.Nat.{ℕ}
 use Rattle.capability.specs.declared.PipelineInstructionClass.{PipelineInstructionClass}
 use Rattle.capability.specs.declared.PipelineInstructionClass.the-variants.{
   Alu,

@@ -1,12 +1,12 @@
 -- How searches and changes of a list go with `map e`.
 use Prim.Native.Nat.{ℕ, zero, suc, _+_}
 use mathlib.Core.Path.{_≡_, refl, sym, _∙_, ap, ap₂}
-use mathlib.Core.Bool.{Bool, true, false, cond, not, _&&_, _||_}
-use mathlib.Core.Option.{Option, none, some}
+use mathlib.Core.Bool.{Bool, true, false, cond, _||_}
+use mathlib.Core.Option.{none, some}
 use mathlib.Core.List.{List, [], _∷_, _++_, map}
 use lib.ListN.{length, drop}
-use Rattle.laws.specs.Lists.{all, any, any-at, count, find-at, is-empty, keep, modify, nth, rest}
-use Rattle.laws.specs.Optional.{get-or, is-some, omap, or-else}
+use Rattle.laws.specs.Lists.{any, any-at, count, find-at, is-empty, keep, modify, nth}
+use Rattle.laws.specs.Optional.{omap, or-else}
 
 module _ {A B : Type 0} (e : A → B) where
   pub map-append : (xs ys : List A) → map e (xs ++ ys) ≡ map e xs ++ map e ys

@@ -14,8 +14,6 @@ use Rattle.model.specs.Config.{Timing, UnitSpec, specs-or-generic, capac
 use Rattle.model.specs.Op.{Info, Given, Op}
 use Rattle.model.specs.Registers.{intern-all}
 use Rattle.model.specs.Timeline.{Write, open-writes, clear-writes, write-all}
-use Rattle.model.specs.Traces.{Trace}
-use Rattle.model.specs.Timeline.{Row}
 use Rattle.model.specs.State.{Stats, State, new}
 use Rattle.model.specs.Write.{offered-op, start-cycle, retire as do-retire, retry as do-retry, resolve-branch, halt as do-halt, fault as do-fault}
 use Rattle.model.specs.Issue.{look}

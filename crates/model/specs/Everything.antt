@@ -16,8 +16,9 @@ use Rattle.model.specs.Views.{views}
 use Rattle.model.specs.Requests.{requests}
 use Rattle.model.specs.Calls.{calls}
 use Rattle.model.specs.RustTimeline.{rust-timeline}
+use Rattle.model.specs.Forecast.{forecasts}
 
 unfoldable pub everything : Unit {0}
 unfolding lists texts numbers config operation registers timeline render units engine writing issuing scoreboard views requests calls
-    rust-timeline
+    rust-timeline forecasts
 everything = tt

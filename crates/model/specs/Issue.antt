@@ -3,10 +3,10 @@ use Prim.Native.Nat.{ℕ, _+_}
 use mathlib.Core.Bool.{Bool, true, false, cond, not, _&&_, _||_}
 use mathlib.Core.Option.{Option, none, some}
 use mathlib.Core.List.{List, [], _∷_, _++_, map}
-use lib.Dec.{eqb, ltb}
+use lib.Dec.{eqb}
 use lib.ListN.{length}
 use Rattle.laws.specs.Optional.{is-some, get-or, when-some}
-use Rattle.laws.specs.Lists.{nth, any, is-empty, modify, find-at, keep}
+use Rattle.laws.specs.Lists.{nth, modify, find-at, keep}
 use Rattle.laws.specs.Texts.{Text}
 use Rattle.capability.specs.declared.PipelineInstructionClass.{PipelineInstructionClass}
 use Rattle.capability.specs.declared.PipelineHazardKind.{PipelineHazardKind}
@@ -44,27 +44,7 @@ use Rattle.model.specs.Units.{
   read-one,
   occupy,
 }
-use Rattle.model.specs.State.{
-  Marks,
-  marks,
-  offer-of,
-  State,
-  count-flush,
-  stall-all,
-  with-units,
-  with-queue,
-  with-registers,
-  with-marks,
-  with-offer,
-  with-front,
-  with-log,
-  with-stats,
-  with-traces,
-  with-rows,
-  with-status,
-  with-turn,
-  with-fetch-pc,
-}
+use Rattle.model.specs.State.{Marks, marks, offer-of, State, count-flush, stall-all, with-units, with-queue, with-registers, with-marks, with-offer, with-front, with-log, with-stats, with-traces, with-rows, with-fetch-pc}
 
 -- ── complete_write ──────────────────────────────────────────────────────────
 

@@ -12,4 +12,5 @@ pub mod Views
 pub mod Requests
 pub mod Calls
 pub mod RustTimeline
+pub mod Forecast
 pub mod Everything

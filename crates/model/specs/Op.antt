@@ -1,7 +1,7 @@
 -- op.rs: one operation. Decisions read `core`; `info` is only moved, looked at, and shown.
 use Prim.Native.Nat.{ℕ, _+_, _%_, max}
-use mathlib.Core.Bool.{Bool, true, false, cond}
-use mathlib.Core.Option.{Option, none, some}
+use mathlib.Core.Bool.{Bool, false, cond}
+use mathlib.Core.Option.{Option, none}
 use mathlib.Core.List.{List, [], _∷_}
 use lib.Dec.{eqb}
 use Rattle.laws.specs.Optional.{get-or}

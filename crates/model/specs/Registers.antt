@@ -17,10 +17,13 @@ pub record Interned : Type 0 where
 abbrev pub interned : ℕ → List Text → Interned
 interned n ns = record { number = n; names = ns }
 
+-- One place further on, behind the name x.
+abbrev pub behind : Text → Interned → Interned
+behind x r = interned (suc (r .number)) (x ∷ r .names)
+
 unfoldable pub intern : List Text → Text → Interned
 intern [] a = interned 0 (a ∷ [])
-intern (x ∷ xs) a =
-    cond (same x a) (interned 0 (x ∷ xs)) (interned (suc (intern xs a .number)) (x ∷ intern xs a .names))
+intern (x ∷ xs) a = cond (same x a) (interned 0 (x ∷ xs)) (behind x (intern xs a))
 
 -- The numbers of a list of names, in order, and the names after.
 pub record Numbered : Type 0 where
@@ -30,10 +33,12 @@ pub record Numbered : Type 0 where
 abbrev pub numbered : List ℕ → List Text → Numbered
 numbered ks ns = record { numbers = ks; names = ns }
 
+abbrev pub number-first : ℕ → Numbered → Numbered
+number-first k r = numbered (k ∷ r .numbers) (r .names)
+
 unfoldable pub intern-all : List Text → List Text → Numbered
 intern-all ns [] = numbered [] ns
-intern-all ns (a ∷ bs) =
-    numbered (intern ns a .number ∷ intern-all (intern ns a .names) bs .numbers) (intern-all (intern ns a .names) bs .names)
+intern-all ns (a ∷ bs) = number-first (intern ns a .number) (intern-all (intern ns a .names) bs)
 
 -- RegisterTable::resolve: reads before writes.
 pub record Operands : Type 0 where

@@ -1,7 +1,7 @@
 -- scoreboard.rs, `ScoreboardPipeline`: the engine, and a setter for each part.
 use Prim.Native.Nat.{ℕ}
 use mathlib.Core.Bool.{Bool, true, false}
-use mathlib.Core.Option.{Option, none, some}
+use mathlib.Core.Option.{Option, none}
 use mathlib.Core.List.{List, [], _∷_, _++_, map}
 use lib.Dec.{eqb}
 use Rattle.laws.specs.Numbers.{saturating-add}

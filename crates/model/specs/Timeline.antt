@@ -1,10 +1,10 @@
 -- timeline.rs, `Timeline`: a row for each fetch, a cell for each cycle that it was visible. The cells stand in lent memory:
 -- row id r uses slot r mod history, 200 bytes; its cell c, counted from 0 at opening, the slot's byte c mod 200.
-use Prim.Native.Nat.{ℕ, zero, suc, _+_, _-_, _*_, _/_, _%_}
+use Prim.Native.Nat.{ℕ, zero, suc, _+_, _-_, _*_, _%_}
 use mathlib.Core.Bool.{Bool, cond}
-use mathlib.Core.Option.{Option, none, some}
+use mathlib.Core.Option.{Option, none}
 use mathlib.Core.List.{List, [], _∷_, _++_}
-use lib.Dec.{eqb, ltb, leb}
+use lib.Dec.{eqb, ltb}
 use lib.ListN.{length, drop, replicate}
 use Rattle.laws.specs.Lists.{nth}
 use Rattle.laws.specs.Numbers.{saturating-add}

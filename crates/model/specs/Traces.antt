@@ -1,7 +1,7 @@
 -- timeline.rs, `Trace`: an entry of a cycle's wait list, and its text as scoreboard.rs formats it.
 use Prim.Native.Nat.{ℕ}
-use mathlib.Core.Option.{Option, none, some}
-use mathlib.Core.List.{List, _++_}
+use mathlib.Core.Option.{Option}
+use mathlib.Core.List.{_++_}
 use Rattle.laws.specs.Optional.{get-or}
 use Rattle.laws.specs.Texts.{Text, bytes, hexadecimal}
 use Rattle.capability.specs.declared.PipelineHazardKind.{PipelineHazardKind}

@@ -2,7 +2,7 @@
 -- Rust's Option of an operation is the flag `busy` beside it: while a unit's result is on offer the flag is off and the operation stays.
 use Prim.Native.Nat.{ℕ, zero, suc, _-_}
 use mathlib.Core.Bool.{Bool, true, false, cond, not, _&&_}
-use mathlib.Core.Option.{Option, none, some}
+use mathlib.Core.Option.{none, some}
 use mathlib.Core.List.{List, [], _∷_, _++_}
 use lib.Dec.{eqb}
 use Rattle.laws.specs.Optional.{get-or}

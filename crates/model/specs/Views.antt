@@ -28,7 +28,6 @@ use Rattle.model.specs.Timeline.{Row, cell-at}
 use Rattle.model.specs.Traces.{Trace, FETCH, ISSUE, READ, EXECUTE, WRITE}
 use Rattle.model.specs.Units.{FunctionalUnit, unit-op, seq-of, in-phase}
 use Rattle.model.specs.State.{State}
-use Rattle.model.specs.Write.{offered-op}
 
 -- ── An operation ────────────────────────────────────────────────────────────
 

@@ -99,7 +99,7 @@ use Rattle.model.specs.Calls.{
   memory-made,
   make-memory,
 }
-use Rattle.refusals.specs.Refusals.{fails, First, Refusals, Buffers, Demand-1, Make-refusals, Demand-1-making}
+use Rattle.refusals.specs.Refusals.{fails, First, Refusals, Buffers, Demand-1, Demand-1-making}
 
 -- ── The first of a list of tests ────────────────────────────────────────────
 

@@ -2,10 +2,9 @@
 use Prim.Native.Nat.{ℕ, zero, suc}
 use mathlib.Core.Path.{_≡_, refl, ap, subst}
 use mathlib.Core.Bool.{false}
-use mathlib.Core.Option.{Option, none, some}
+use mathlib.Core.Option.{some}
 use mathlib.Core.List.{List, [], _∷_}
-use lib.Dec.{T}
-use Rattle.laws.specs.Lists.{All, All2, none2, more2, nth, lists}
+use Rattle.laws.specs.Lists.{All, All2, none2, more2, nth}
 use Rattle.laws.specs.Texts.{Text, same}
 use Rattle.laws.proofs.Choices.{either, none-some, some-inj, false-T}
 use Rattle.laws.proofs.Same.{same-eq, same-of-eq}

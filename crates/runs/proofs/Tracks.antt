@@ -1,29 +1,28 @@
 -- Along a run: the names learned, and that every operation held is the one that was fetched under its number.
-use Prim.Native.Nat.{ℕ, zero, suc, _+_, _-_, min, _≤_}
+use Prim.Native.Nat.{ℕ, zero, suc, _+_, _-_, _≤_}
 use native.Mathlib.Omega.{arith}
-use mathlib.Core.Path.{_≡_, refl, sym, _∙_, ap, ap₂, subst}
-use mathlib.Core.Bool.{Bool, true, false, cond, not, _&&_, _||_}
+use mathlib.Core.Path.{_≡_, refl, sym, _∙_, ap, subst}
+use mathlib.Core.Bool.{Bool, true, false, cond}
 use mathlib.Core.Option.{Option, none, some}
 use mathlib.Core.List.{List, [], _∷_, _++_, map}
-use lib.Dec.{T, eqb, eqb-refl, ltb}
+use lib.Dec.{eqb}
 use lib.ListN.{length, length-append}
 use borrow.Author.Tests.{eqb-false}
 use Rattle.capability.specs.declared.PipelineHazardKind.{PipelineHazardKind}
-use Rattle.laws.specs.Lists.{lists, All, any, modify, nth}
-use Rattle.laws.specs.Numbers.{max64, saturating-add}
-use Rattle.laws.specs.Optional.{is-none, or-else, when-some}
+use Rattle.laws.specs.Lists.{All, any, modify, nth}
+use Rattle.laws.specs.Numbers.{max64}
+use Rattle.laws.specs.Optional.{when-some}
 use Rattle.laws.specs.Texts.{Text}
-use Rattle.model.specs.Calls.{Call, advance as advance-call, after, bad-info, calls, capacity, cell, fault as fault-call, fetch, halt as halt-call, looked, looked-by, looks, names-with, overlap, redirect, refusal, reset, resolve as resolve-call, retire, retry as retry-call, run, start, text, view}
+use Rattle.model.specs.Calls.{Call, advance as advance-call, after, calls, capacity, cell, fault as fault-call, fetch, halt as halt-call, looked, looked-by, overlap, redirect, refusal, reset, resolve as resolve-call, retire, retry as retry-call, run, start, text, view}
 use Rattle.model.specs.Config.{UnitSpec, with-capacity}
-use Rattle.model.specs.Issue.{block-issue, complete-offer, free-unit, issue, issue-choose, issue-front, issue-looked, issue-to, issuing, learn, look-choose, look-front, looked-at, place, read-operands, redirected, start-ready, taken, tick-execute, waits-on}
+use Rattle.model.specs.Issue.{block-issue, complete-offer, free-unit, issue, issue-choose, issue-front, issue-to, issuing, learn, look-choose, look-front, looked-at, taken, waits-on}
 use Rattle.model.specs.Op.{Given, Info, Op, no-info, with-hazard}
 use Rattle.model.specs.Registers.{registers, resolve}
-use Rattle.model.specs.Requests.{fault, requests}
-use Rattle.model.specs.Scoreboard.{advance, advance-looked, after-issue, before-issue, clear-status, closed, fetched, fetched-op, rebuilt, scoreboard, set-capacity, stops}
+use Rattle.model.specs.Scoreboard.{advance, advance-looked, after-issue, before-issue, closed, fetched, fetched-op, rebuilt, scoreboard, set-capacity, stops}
 use Rattle.model.specs.State.{Marks, State}
 use Rattle.model.specs.Traces.{Detail}
-use Rattle.model.specs.Units.{FunctionalUnit, begin, build-units, clear, clear-hazard, idle-unit, instances, is-busy, mark-hazard, occupy, read-one, tick, units, with-busy, without-waits}
-use Rattle.model.specs.Write.{Blocked, Tried, blocked-kind, halt, mark-blocked, open-cycle, put-back, retry, start-cycle, stopped, take-out, writable-unit, writing}
+use Rattle.model.specs.Units.{FunctionalUnit, begin, build-units, clear, clear-hazard, instances, is-busy, mark-hazard, occupy, read-one, tick, units, with-busy, without-waits}
+use Rattle.model.specs.Write.{Blocked, blocked-kind, mark-blocked, open-cycle, put-back, retry, start-cycle, stopped, take-out, writable-unit, writing}
 use Rattle.refusals.proofs.Demand1.{taken-checks}
 use Rattle.laws.proofs.Choices.{none-some}
 use Rattle.runs.specs.Runs.{given-to, accepted, no-reset}

@@ -1,6 +1,5 @@
 -- A list of calls: which operations its accepted fetches were given, and which were looked at.
 use Prim.Native.Nat.{ℕ}
-use mathlib.Core.Option.{Option, none, some}
 use mathlib.Core.List.{List, [], _∷_, _++_, map}
 use Rattle.laws.specs.Optional.{when-some}
 use Rattle.model.specs.Op.{Info}

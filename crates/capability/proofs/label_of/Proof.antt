@@ -8,7 +8,6 @@ use native.Mathlib.Nat.{zero-add, sub-zero, zero-sub, suc-sub-suc}
 use lib.ListN.{length, take, drop, set, getD, replicate, length-append, length-replicate}
 use lib.Seq.{paste-suc, take-all, take-at, drop-at}
 use Rattle.laws.specs.Means.{Means}
-use Rattle.capability.specs.declared.Label.{Label}
 use Rattle.capability.specs.Labels.{label-text, LabelOk}
 use Rattle.capability.proofs.label_of.Statement.{statement}
 use Rattle.capability.proofs.label_of.Tie as tie
