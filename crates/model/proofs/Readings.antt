@@ -1,7 +1,7 @@
 -- Readings that are easy to get wrong, as facts of the model: each is a test that gives `true`, by computing.
 use Prim.Native.Nat.{ℕ, zero, suc}
 use mathlib.Core.Path.{_≡_, refl}
-use mathlib.Core.Bool.{Bool, true, false, not, _&&_}
+use mathlib.Core.Bool.{Bool, true, false, cond, not, _&&_}
 use mathlib.Core.Option.{Option, none, some}
 use mathlib.Core.List.{List, [], _∷_, _++_, map}
 use lib.Dec.{eqb}
@@ -57,6 +57,7 @@ use Rattle.model.specs.State.{
   with-next,
   new,
 }
+use Rattle.capability.specs.Numbers.{phase-number}
 use Rattle.model.specs.Write.{write-blocked, offered-op}
 use Rattle.model.specs.Calls.{
   Call,
@@ -105,6 +106,40 @@ no-name-at-fetch = refl
 names-at-look : eqb (length (runs (after-fetch (op Alu (x1 ∷ []) (bytes "x2" ∷ []))) cycle .names)) 2 ≡ true
 unfolding everything
 names-at-look = refl
+
+-- Reads are numbered before writes, and each write is claimed by the unit.
+abbrev looked-at-once : State
+looked-at-once = runs (after-fetch (op Alu (x1 ∷ []) (bytes "x2" ∷ []))) cycle
+
+reads-before-writes : (same (unit-at (looked-at-once .units) 0 .sources) (0 ∷ []) && same (unit-at (looked-at-once .units) 0 .destinations) (1 ∷ [])) ≡ true
+unfolding everything
+reads-before-writes = refl
+
+writes-are-claimed : same (map (get-or 9) (looked-at-once .producer)) (9 ∷ 0 ∷ []) ≡ true
+unfolding everything
+writes-are-claimed = refl
+
+-- ── No decision reads a name, a text or a payload ───────────────────────────
+
+abbrev other-op : Text → ℕ → List Text → List Text → Given
+other-op t p r w = given (decoded 0 4 Alu false false) (info-of t none none r w p)
+
+-- Two operations, the second reading what the first writes, and some cycles.
+abbrev two-ops : Text → Text → Text → ℕ → State
+two-ops x y t p =
+    runs fresh
+    (overlap true
+    ∷ (cycle ++ (fetch (other-op t p (x ∷ []) (y ∷ [])) memory ∷ (cycle ++ (fetch (other-op t p (y ∷ []) (x ∷ [])) memory ∷ (cycle ++ cycle))))))
+
+abbrev unit-numbers : FunctionalUnit → List ℕ
+unit-numbers u = cond (u .busy) 1 0 ∷ phase-number (u .phase) ∷ length (u .pending) ∷ u .sources ++ u .destinations
+
+abbrev engine-numbers : State → List ℕ
+engine-numbers s = s .log .stats .stalls ∷ length (s .queue) ∷ unit-numbers (unit-at (s .units) 0) ++ unit-numbers (unit-at (s .units) 1)
+
+names-do-not-decide : same (engine-numbers (two-ops x1 (bytes "x2") (bytes "op") 0)) (engine-numbers (two-ops (bytes "b") (bytes "a") [] 7)) ≡ true
+unfolding everything
+names-do-not-decide = refl
 
 -- ── An operation that reads and writes one register does not wait on itself ─
 
