@@ -1,30 +1,10 @@
--- A list of calls: which operations its accepted fetches were given, and which were looked at.
+-- Calls along a run: what an accepted fetch was given, and which calls are no reset.
 use Prim.Native.Nat.{ℕ}
-use mathlib.Core.List.{List, [], _∷_, _++_, map}
+use mathlib.Core.List.{List, [], _∷_}
 use Rattle.laws.specs.Optional.{when-some}
 use Rattle.model.specs.Op.{Info}
 use Rattle.model.specs.State.{State}
-use Rattle.model.specs.Calls.{
-  Call,
-  start,
-  retire,
-  retry,
-  resolve,
-  advance,
-  fetch,
-  capacity,
-  overlap,
-  halt,
-  fault,
-  reset,
-  redirect,
-  view,
-  cell,
-  text,
-  refusal,
-  after,
-  looks,
-}
+use Rattle.model.specs.Calls.{Call, start, retire, retry, resolve, advance, fetch, capacity, overlap, halt, fault, reset, redirect, view, cell, text, refusal}
 
 abbrev pub given-to : Call → List Info
 given-to start = []
@@ -46,19 +26,9 @@ given-to (text t n) = []
 abbrev pub accepted : State → Call → List Info
 accepted s c = when-some (refusal s c) (given-to c) (λ (n : ℕ). [])
 
--- What each accepted fetch was given, in order: the place is the operation's number.
-unfoldable pub operations : State → List Call → List Info
-operations s [] = []
-operations s (c ∷ cs) = accepted s c ++ operations (after s c) cs
-
 -- The number of the operation of a look.
 abbrev pub look-number : (ℕ × List ℕ) → ℕ
 look-number p = p .0
-
--- The numbers of the operations looked at.
-unfoldable pub looked-numbers : State → List Call → List ℕ
-looked-numbers s [] = []
-looked-numbers s (c ∷ cs) = map look-number (looks s c) ++ looked-numbers (after s c) cs
 
 abbrev pub no-reset : Call → Type 0
 no-reset start = Unit {0}

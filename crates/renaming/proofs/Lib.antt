@@ -1,0 +1,9 @@
+pub mod Queries
+pub mod Names
+pub mod Respect
+pub mod Shown
+pub mod Answers
+pub mod Step
+pub mod Demand3
+pub mod Sampled
+pub mod WrongEngines

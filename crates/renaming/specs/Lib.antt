@@ -1,0 +1,4 @@
+pub mod Recording
+pub mod Renaming
+pub mod Sample
+pub mod WrongEngines
