@@ -29,6 +29,25 @@ same [] (y ∷ ys) = false
 same (x ∷ xs) [] = false
 same (x ∷ xs) (y ∷ ys) = eqb x y && same xs ys
 
+-- The bytes before the first byte b; all of them where there is none.
+unfoldable pub before : ℕ → Text → Text
+before b [] = []
+before b (x ∷ xs) = cond (eqb x b) [] (x ∷ before b xs)
+
+-- The bytes after the first byte b; none where there is none.
+unfoldable pub beyond : ℕ → Text → Text
+beyond b [] = []
+beyond b (x ∷ xs) = cond (eqb x b) xs (beyond b xs)
+
+-- The pieces between bytes b, empty ones too: one more than there are such bytes.
+unfoldable pub onto-first : ℕ → List Text → List Text
+onto-first x [] = (x ∷ []) ∷ []
+onto-first x (p ∷ ps) = (x ∷ p) ∷ ps
+
+unfoldable pub pieces : ℕ → Text → List Text
+pieces b [] = [] ∷ []
+pieces b (x ∷ xs) = cond (eqb x b) ([] ∷ pieces b xs) (onto-first x (pieces b xs))
+
 -- A digit: 0 to 9, then capitals.
 unfoldable pub digit : ℕ → ℕ
 digit d = cond (ltb d 10) (48 + d) (55 + d)
@@ -61,5 +80,5 @@ value base t = value-from base 0 t
 
 -- All of these unfold where a line says `unfolding texts`.
 unfoldable pub texts : Unit {0}
-unfolding utf8 bytes same digit digits-before decimal hexadecimal
+unfolding utf8 bytes same before beyond onto-first pieces digit digits-before decimal hexadecimal
 texts = tt

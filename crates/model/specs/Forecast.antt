@@ -8,7 +8,7 @@ use lib.Dec.{eqb, ltb}
 use lib.ListN.{length, replicate}
 use Rattle.laws.specs.Optional.{is-some, get-or, when-some}
 use Rattle.laws.specs.Lists.{any, is-empty}
-use Rattle.laws.specs.Texts.{Text, bytes, same, decimal}
+use Rattle.laws.specs.Texts.{Text, bytes, same, before, beyond, pieces, decimal}
 use Rattle.capability.specs.declared.PipelineInstructionClass.{PipelineInstructionClass}
 use Rattle.capability.specs.declared.PipelineInstructionClass.the-variants.{
   Alu,
@@ -55,16 +55,6 @@ use Rattle.model.specs.Calls.{
 
 -- ── Lines ───────────────────────────────────────────────────────────────────
 
--- The bytes before the first byte b; all of them where there is none.
-unfoldable pub before : ℕ → Text → Text
-before b [] = []
-before b (x ∷ xs) = cond (eqb x b) [] (x ∷ before b xs)
-
--- The bytes after the first byte b; none where there is none.
-unfoldable pub beyond : ℕ → Text → Text
-beyond b [] = []
-beyond b (x ∷ xs) = cond (eqb x b) xs (beyond b xs)
-
 -- A line ends in byte 10, which the last may lack.
 unfoldable pub first-line : Text → Text
 first-line input = before 10 input
@@ -104,18 +94,9 @@ size-in (a ∷ []) = cond (ltb 48 a && ltb a 58) (some (a - 48)) none
 size-in (a ∷ b ∷ []) = cond (eqb a 49 && ltb 47 b && ltb b 54) (some (10 + (b - 48))) none
 size-in (a ∷ b ∷ c ∷ cs) = none
 
--- The parts between commas: one more than there are commas.
-unfoldable pub onto-first : ℕ → List Text → List Text
-onto-first x [] = (x ∷ []) ∷ []
-onto-first x (p ∷ ps) = (x ∷ p) ∷ ps
-
-unfoldable pub parts : Text → List Text
-parts [] = [] ∷ []
-parts (x ∷ xs) = cond (eqb x 44) ([] ∷ parts xs) (onto-first x (parts xs))
-
 -- A list: nonempty names with commas, or `-` alone for none. (`--` and the first of `-,x` are names.)
 unfoldable pub list-in : Text → Option (List Text)
-list-in t = cond (same t (bytes "-")) (some []) (cond (any is-empty (parts t)) none (some (parts t)))
+list-in t = cond (same t (bytes "-")) (some []) (cond (any is-empty (pieces 44 t)) none (some (pieces 44 t)))
 
 -- What a line says: an operation without its address.
 pub record Line : Type 0 where
@@ -323,7 +304,7 @@ forecast-program input = forecast input (replicate 51200 255)
 
 -- All of these unfold where a line says `unfolding forecasts`.
 unfoldable pub forecasts : Unit {0}
-unfolding before beyond first-line other-lines past word letters class-by class-in size-in onto-first parts list-in line-by parse branches
+unfolding first-line other-lines past word letters class-by class-in size-in list-in line-by parse branches
     line-given forecast-shape play retire-offer cycle fetch-line take-fetched take-parsed take-line cycle-and-line turn forecast-run fuel-for excess
     forecast-made forecast-of is-stalled cell-text cells-text row-text rows-text totals-text refused-text printed cells-left forecast
     forecast-memory forecast-checks forecast-refusal forecast-answer forecast-out forecast-program

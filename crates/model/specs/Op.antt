@@ -5,7 +5,7 @@ use mathlib.Core.Option.{Option, none}
 use mathlib.Core.List.{List, [], _∷_}
 use lib.Dec.{eqb}
 use Rattle.laws.specs.Optional.{get-or}
-use Rattle.laws.specs.Texts.{Text, bytes}
+use Rattle.laws.specs.Texts.{Text, bytes, before}
 use Rattle.capability.specs.declared.PipelineInstructionClass.{PipelineInstructionClass}
 use Rattle.capability.specs.declared.PipelineInstructionClass.the-variants.{Unknown}
 use Rattle.capability.specs.declared.PipelineHazardKind.{PipelineHazardKind}
@@ -85,9 +85,8 @@ unfoldable pub skip-spaces : Text → Text
 skip-spaces [] = []
 skip-spaces (x ∷ xs) = cond (eqb x 32) (skip-spaces xs) (x ∷ xs)
 
-unfoldable pub to-space : Text → Text
-to-space [] = []
-to-space (x ∷ xs) = cond (eqb x 32) [] (x ∷ to-space xs)
+abbrev pub to-space : Text → Text
+to-space t = before 32 t
 
 unfoldable pub or-question : Text → Text
 or-question [] = bytes "?"
@@ -101,5 +100,5 @@ mnemonic o = first-word (o .info .disassembly)
 
 -- All of these unfold where a line says `unfolding operation`.
 unfoldable pub operation : Unit {0}
-unfolding sequential-address skip-spaces to-space or-question first-word mnemonic
+unfolding sequential-address skip-spaces or-question first-word mnemonic
 operation = tt

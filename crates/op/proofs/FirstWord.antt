@@ -11,10 +11,10 @@ use lib.Seq.{take-all}
 use borrow.Author.Tests.{eqb-true, eqb-false}
 use Rattle.laws.specs.Lists.{All, head, keep, is-empty}
 use Rattle.laws.specs.Optional.{get-or}
-use Rattle.laws.specs.Texts.{Text, bytes}
+use Rattle.laws.specs.Texts.{Text, before, bytes, onto-first, pieces}
 use Rattle.laws.proofs.Tests.{cond-eq, cond-ne, true-or-false}
 use Rattle.model.specs.Op.{skip-spaces, to-space, or-question, first-word}
-use Rattle.op.specs.FirstWord.{or-text, word-or, WordStart, WordEnd, space, at-space, IsFirstWord, onto, pieces, split-whitespace, FirstWords}
+use Rattle.op.specs.FirstWord.{or-text, word-or, WordStart, WordEnd, space, at-space, IsFirstWord, split-whitespace, FirstWords}
 use Rattle.op.proofs.Scans.{skip-space, skip-word, to-end, to-more}
 
 -- ── The part that mnemonic hands back ─────────────────────────────────────────
@@ -64,7 +64,7 @@ record Front (t w : Text) : Type 0 where
   after : at-space rest
 
 front : (t : Text) → Front t (to-space t)
-unfolding to-space
+unfolding before
 front [] = record { rest = []; parts = refl; inside = tt; after = tt }
 front (b ∷ bs) = by-space b ends goes (front bs)
   where
@@ -77,7 +77,7 @@ front (b ∷ bs) = by-space b ends goes (front bs)
         (record { rest = f .rest; parts = ap (λ t. b ∷ t) (f .parts); inside = (h, f .inside); after = f .after })
 
 is-first-word : (t : Text) → IsFirstWord t (to-space (skip-spaces t))
-unfolding skip-spaces to-space
+unfolding skip-spaces before
 is-first-word [] = record { spaces = []; rest = []; parts = refl; before = tt; inside = tt; after = tt; empty = λ e. refl }
 is-first-word (b ∷ bs) = by-space b passes starts (is-first-word bs)
   where
@@ -114,13 +114,13 @@ skip-all [] t a = refl
 skip-all (b ∷ s) t a = skip-space (a .0) (s ++ t) ∙ skip-all s t (a .1)
 
 to-all : (w t : Text) → All (λ (b : ℕ). space b → ⊥) w → at-space t → to-space (w ++ t) ≡ w
-unfolding to-space
+unfolding before
 to-all [] [] a h = refl
 to-all [] (b ∷ t) a h = to-end h t
 to-all (b ∷ w) t a h = to-more (a .0) (w ++ t) ∙ ap (λ u. b ∷ u) (to-all w t (a .1) h)
 
 only-first-word : (t w : Text) → IsFirstWord t w → w ≡ to-space (skip-spaces t)
-unfolding skip-spaces to-space
+unfolding skip-spaces before
 only-first-word t [] f =
     let e : t ≡ f .spaces ++ [] = f .empty refl ∙ sym (append-nil (f .spaces)) in
     sym (ap (λ u. to-space (skip-spaces u)) e ∙ ap to-space (skip-all (f .spaces) [] (f .before)))
@@ -132,20 +132,20 @@ only-first-word t (x ∷ w) f =
 -- ── By splitting ──────────────────────────────────────────────────────────────
 
 -- The first piece, empty or not, ends at the first space.
-pieces-first : (t : Text) → (ps : List Text) × (pieces t ≡ to-space t ∷ ps)
-unfolding pieces onto to-space
+pieces-first : (t : Text) → (ps : List Text) × (pieces 32 t ≡ to-space t ∷ ps)
+unfolding pieces onto-first before
 pieces-first [] = ([], refl)
 pieces-first (b ∷ bs) = by-space b ends goes (pieces-first bs)
   where
-    ends : space b → ((ps : List Text) × (pieces bs ≡ to-space bs ∷ ps)) → (ps : List Text) × (pieces (b ∷ bs) ≡ to-space (b ∷ bs) ∷ ps)
-    ends h f = (pieces bs, cond-eq _ _ h ∙ ap (λ u. u ∷ pieces bs) (sym (to-end h bs)))
+    ends : space b → ((ps : List Text) × (pieces 32 bs ≡ to-space bs ∷ ps)) → (ps : List Text) × (pieces 32 (b ∷ bs) ≡ to-space (b ∷ bs) ∷ ps)
+    ends h f = (pieces 32 bs, cond-eq _ _ h ∙ ap (λ u. u ∷ pieces 32 bs) (sym (to-end h bs)))
 
-    goes : (space b → ⊥) → ((ps : List Text) × (pieces bs ≡ to-space bs ∷ ps)) → (ps : List Text) × (pieces (b ∷ bs) ≡ to-space (b ∷ bs) ∷ ps)
-    goes h f = (f .0, cond-ne _ _ h ∙ ap (onto b) (f .1) ∙ ap (λ u. u ∷ f .0) (sym (to-more h bs)))
+    goes : (space b → ⊥) → ((ps : List Text) × (pieces 32 bs ≡ to-space bs ∷ ps)) → (ps : List Text) × (pieces 32 (b ∷ bs) ≡ to-space (b ∷ bs) ∷ ps)
+    goes h f = (f .0, cond-ne _ _ h ∙ ap (onto-first b) (f .1) ∙ ap (λ u. u ∷ f .0) (sym (to-more h bs)))
 
 -- The first that is not empty comes after the leading spaces.
 first-kept : (t : Text) → or-question (to-space (skip-spaces t)) ≡ get-or (bytes "?") (head (split-whitespace t))
-unfolding split-whitespace pieces keep is-empty head or-question skip-spaces to-space
+unfolding split-whitespace pieces keep is-empty head or-question skip-spaces before
 first-kept [] = refl
 first-kept (b ∷ bs) = by-space b passes starts (first-kept bs)
   where
@@ -153,7 +153,7 @@ first-kept (b ∷ bs) = by-space b passes starts (first-kept bs)
         → or-question (to-space (skip-spaces (b ∷ bs))) ≡ get-or (bytes "?") (head (split-whitespace (b ∷ bs)))
     passes h f =
         ap (λ u. or-question (to-space u)) (skip-space h bs) ∙ f
-        ∙ ap (λ l. get-or (bytes "?") (head (keep (λ (p : Text). not (is-empty p)) l))) (sym (cond-eq ([] ∷ pieces bs) (onto b (pieces bs)) h))
+        ∙ ap (λ l. get-or (bytes "?") (head (keep (λ (p : Text). not (is-empty p)) l))) (sym (cond-eq ([] ∷ pieces 32 bs) (onto-first b (pieces 32 bs)) h))
 
     starts : (space b → ⊥) → or-question (to-space (skip-spaces bs)) ≡ get-or (bytes "?") (head (split-whitespace bs))
         → or-question (to-space (skip-spaces (b ∷ bs))) ≡ get-or (bytes "?") (head (split-whitespace (b ∷ bs)))

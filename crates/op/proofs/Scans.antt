@@ -5,7 +5,7 @@ use mathlib.Core.List.{[], _∷_, _++_, append-nil}
 use native.Mathlib.Omega.{arith}
 use lib.ListN.{length, getD, take, drop, drop-of-length-le}
 use lib.Seq.{append-snoc}
-use Rattle.laws.specs.Texts.{Text}
+use Rattle.laws.specs.Texts.{Text, before}
 use Rattle.laws.proofs.Tests.{cond-eq, cond-ne}
 use Rattle.laws.proofs.Slices.{list-next, seen-take}
 use Rattle.laws.proofs.Search.{Scan}
@@ -24,11 +24,11 @@ module _ {x : ℕ} where
   skip-word h xs = cond-ne _ _ h
 
   pub to-end : x ≡ 32 → (xs : Text) → to-space (x ∷ xs) ≡ []
-  unfolding to-space
+  unfolding before
   to-end h xs = cond-eq _ _ h
 
   pub to-more : (x ≡ 32 → ⊥) → (xs : Text) → to-space (x ∷ xs) ≡ x ∷ to-space xs
-  unfolding to-space
+  unfolding before
   to-more h xs = cond-ne _ _ h
 
 -- ── Over the spaces ───────────────────────────────────────────────────────────
@@ -74,5 +74,5 @@ module _ (t : Text) {i : ℕ} (e : Within t i) where
   within-end h q = ends (ap to-space (list-next t 0 h .is) ∙ to-end q _)
 
   pub within-last : length t ≤ i → WordEnd t i
-  unfolding to-space
+  unfolding before
   within-last h = ends (ap to-space (drop-of-length-le t h))

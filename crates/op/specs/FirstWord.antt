@@ -1,13 +1,12 @@
 -- What the first word of a text is.
 use Prim.Native.Nat.{ℕ, _≤_}
 use mathlib.Core.Path.{_≡_}
-use mathlib.Core.Bool.{not, cond}
+use mathlib.Core.Bool.{not}
 use mathlib.Core.List.{List, [], _∷_, _++_}
-use lib.Dec.{eqb}
 use lib.ListN.{length, take, drop}
 use Rattle.laws.specs.Optional.{get-or}
 use Rattle.laws.specs.Lists.{All, head, is-empty, keep}
-use Rattle.laws.specs.Texts.{Text, bytes}
+use Rattle.laws.specs.Texts.{Text, bytes, pieces}
 use Rattle.model.specs.Op.{skip-spaces, to-space, first-word}
 
 -- The word, or another text where there is none.
@@ -49,18 +48,8 @@ pub record IsFirstWord (t w : Text) : Type 0 where
 
 -- ── By splitting: str::split_whitespace ───────────────────────────────────────
 
--- A byte before the first piece.
-unfoldable pub onto : ℕ → List Text → List Text
-onto b [] = (b ∷ []) ∷ []
-onto b (p ∷ ps) = (b ∷ p) ∷ ps
-
--- The pieces between spaces, empty ones too.
-unfoldable pub pieces : Text → List Text
-pieces [] = [] ∷ []
-pieces (b ∷ bs) = cond (eqb b 32) ([] ∷ pieces bs) (onto b (pieces bs))
-
 unfoldable pub split-whitespace : Text → List Text
-split-whitespace t = keep (λ (p : Text). not (is-empty p)) (pieces t)
+split-whitespace t = keep (λ (p : Text). not (is-empty p)) (pieces 32 t)
 
 -- ── What holds of every text ──────────────────────────────────────────────────
 
