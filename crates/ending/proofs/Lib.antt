@@ -1,0 +1,11 @@
+pub mod Totals
+pub mod Oldest
+pub mod Offered
+pub mod Work
+pub mod Counts
+pub mod Cycle
+pub mod Progress
+pub mod Cycled
+pub mod Played
+pub mod Turn
+pub mod Ending
