@@ -1,0 +1,13 @@
+pub mod Lists
+pub mod Unseen
+pub mod Rows
+pub mod Issuing
+pub mod Reading
+pub mod Blocking
+pub mod Offering
+pub mod Written
+pub mod Holds
+pub mod Along
+pub mod Runs
+pub mod Oldest
+pub mod Departures

@@ -1,0 +1,4 @@
+pub mod Book
+pub mod Tables
+pub mod Conditions
+pub mod Departures
