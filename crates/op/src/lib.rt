@@ -2,11 +2,11 @@
 use capability::PipelineInstructionClass;
 
 // Checks and copies of bytes, shared by texts and names.
-mod slices;
+pub mod slices;
 // The methods of an operation.
 mod operation;
 // The first word of a text.
-mod word;
+pub mod word;
 
 pub use slices::has_bad_byte;
 pub use slices::is_bad_text;

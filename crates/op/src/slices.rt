@@ -57,7 +57,7 @@ pub fn is_bad_text(bytes: &[u8], len: u8) -> bool
 }
 
 // The first bytes of `out` are those of s, as many as fit.
-pub(crate) fn copy_into(out: &mut [u8], s: &[u8])
+pub fn copy_into(out: &mut [u8], s: &[u8])
     ensures { λ r. ⌜ now (out .exit) ≡ take (length (now (out .entry))) (now (s .entry)) ++ drop (length (now (s .entry))) (now (out .entry)) ⌝ }
 {
     let n = least(out.len(), s.len());
@@ -69,20 +69,20 @@ pub(crate) fn copy_into(out: &mut [u8], s: &[u8])
 }
 
 // How many bytes s has, 255 for more.
-pub(crate) fn count_of(s: &[u8]) -> u8
+pub fn count_of(s: &[u8]) -> u8
     ensures { λ r. ⌜ r ≡ min (length (now (s .entry))) 255 ⌝ }
 {
     if s.len() < 255 { s.len() as u8 } else { 255 }
 }
 
 // A count that stops at 255.
-pub(crate) fn one_more(n: u8) -> u8
+pub fn one_more(n: u8) -> u8
     ensures { λ r. ⌜ r ≡ min (n + 1) 255 ⌝ }
 {
     if n < 255 { n + 1 } else { 255 }
 }
 
-pub(crate) fn least(a: usize, b: usize) -> usize
+pub fn least(a: usize, b: usize) -> usize
     ensures { λ r. ⌜ r ≡ min a b ⌝ }
 {
     if a < b { a } else { b }

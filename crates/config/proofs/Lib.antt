@@ -1,0 +1,10 @@
+pub mod Classes
+pub mod Spare
+pub mod Units
+pub mod Checks
+pub mod Bounds
+pub mod Shapes
+pub mod Specs
+pub mod Keeping
+pub mod Machines
+pub mod Engine
