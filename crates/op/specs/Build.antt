@@ -39,12 +39,7 @@ with-destination name g = with-operands (some name) (g .info .sources) (g .info 
 unfoldable pub with-source : Text → Given → Given
 with-source name g = with-operands (g .info .destination) (pushed 8 name (g .info .sources)) (g .info .writes) g
 
-unfoldable pub with-fault : Text → Given → Given
-with-fault note g =
-    given (g .decoded)
-    (info-of (g .info .disassembly) (some note) (g .info .destination) (g .info .sources) (g .info .writes) (g .info .payload))
-
 -- All of these unfold where a line says `unfolding build`.
 unfoldable pub build : Unit {0}
-unfolding sized branched indivisible pushed with-write with-destination with-source with-fault
+unfolding sized branched indivisible pushed with-write with-destination with-source
 build = tt

@@ -11,11 +11,11 @@ use Rattle.model.specs.Op.{skip-spaces, to-space, first-word}
 
 -- The word, or another text where there is none.
 unfoldable pub or-text : Text → Text → Text
-or-text none [] = none
-or-text none (x ∷ xs) = x ∷ xs
+or-text other [] = other
+or-text other (x ∷ xs) = x ∷ xs
 
 unfoldable pub word-or : Text → Text → Text
-word-or none t = or-text none (to-space (skip-spaces t))
+word-or other t = or-text other (to-space (skip-spaces t))
 
 -- The leading spaces of t end at i.
 pub record WordStart (t : Text) (i : ℕ) : Type 0 where

@@ -1,3 +1,4 @@
+-- By the flag.
 use mathlib.Core.Path.{sym, _∙_}
 use borrow.Author.Needs.{needs}
 use Rattle.laws.proofs.Tests.{cond-yes, cond-no, when-some-some, when-some-none}

@@ -1,3 +1,4 @@
+-- The flag is off.
 use mathlib.Core.Path.{refl}
 use borrow.Author.Needs.{needs}
 use Rattle.op.specs.View.{views}

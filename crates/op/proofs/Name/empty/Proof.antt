@@ -1,3 +1,4 @@
+-- No bytes.
 use mathlib.Core.Path.{refl}
 use Rattle.op.specs.View.{views}
 use Rattle.op.proofs.Name.empty.Statement.{statement}

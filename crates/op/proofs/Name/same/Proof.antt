@@ -1,3 +1,4 @@
+-- Lengths that differ, lengths past the array, or the bytes up to the length.
 use mathlib.Core.Path.{_≡_, sym, _∙_}
 use native.Mathlib.Omega.{arith}
 use lib.ListN.{length-map, length}

@@ -1,3 +1,4 @@
+-- The tests in their order: the first that says yes decides.
 use mathlib.Core.Path.{_≡_, sym, _∙_}
 use mathlib.Core.Bool.{Bool, false, _||_}
 use borrow.Author.Needs.{needs}

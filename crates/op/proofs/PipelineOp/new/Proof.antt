@@ -1,3 +1,4 @@
+-- Nothing is there but what was given.
 use borrow.Author.Needs.{needs}
 use Rattle.op.specs.View.{views}
 use Rattle.op.proofs.PipelineOp.new.Statement.{statement}

@@ -1,3 +1,4 @@
+-- By the machine's fixed length, or else the operation's own.
 use mathlib.Core.Path.{_∙_}
 use borrow.Author.Needs.{needs}
 use Rattle.model.specs.Op.{sequential-address}

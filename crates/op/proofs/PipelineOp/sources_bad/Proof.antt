@@ -1,3 +1,4 @@
+-- The first 8 of the list are those in the array.
 use mathlib.Core.Path.{_≡_, sym, ap, _∙_}
 use lib.ListN.{length, length-map}
 use borrow.Author.Needs.{needs}

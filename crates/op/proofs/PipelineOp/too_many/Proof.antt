@@ -1,3 +1,4 @@
+-- A list is as long as its count.
 use mathlib.Core.Path.{_≡_}
 use lib.ListN.{length, length-map}
 use borrow.Author.Tests.{lt-ltb, le-ltb}

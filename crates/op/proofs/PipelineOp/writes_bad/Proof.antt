@@ -1,3 +1,4 @@
+-- The first 4 of the list are those in the array, and the empty names behind them pass.
 use mathlib.Core.Path.{_≡_, refl, sym, ap, _∙_}
 use mathlib.Core.Bool.{false}
 use mathlib.Core.List.{[], map}

@@ -1,3 +1,4 @@
+-- As also_writes, with the destination shown.
 use mathlib.Core.Path.{ap}
 use borrow.Author.Needs.{needs}
 use Rattle.op.specs.View.{viewOp, viewMaybeName, viewName}

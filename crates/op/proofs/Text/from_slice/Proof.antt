@@ -1,3 +1,4 @@
+-- What is copied shows as the slice does.
 use mathlib.Core.Path.{_∙_, ap₂}
 use lib.Dec.{lit<}
 use borrow.Author.Needs.{needs}

@@ -1,13 +1,15 @@
-use Prim.Native.Nat.{ℕ, _-_, _≤_}
+-- A search: what is left gives what the whole gives.
+use Prim.Native.Nat.{ℕ, _-_}
 use mathlib.Core.List.{[], map}
 use mathlib.Core.Path.{_≡_, sym, ap, _∙_}
 use native.Mathlib.Omega.{arith}
-use lib.ListN.{length, take, length-map}
+use lib.ListN.{length, take, getD, length-map}
 use borrow.Author.Needs.{needs}
 use Rattle.laws.specs.Lists.{any}
-use Rattle.laws.proofs.Slices.{view-next, slice-end}
+use Rattle.laws.proofs.Slices.{Seen, view-next, slice-end}
 use Rattle.laws.proofs.Search.{Scan, scan-first, scan-next, scan-stop, scan-last, any-hit, any-miss, any-end}
 use Rattle.model.specs.Calls.{bad-text}
+use Rattle.op.specs.declared.Name.{Name}
 use Rattle.op.specs.View.{viewName}
 use Rattle.op.proofs.Firsts.{take-least}
 use Rattle.op.proofs.operation.any_bad.Statement.{statement}
@@ -22,10 +24,18 @@ abbrev μ-loop : tie.MeasureT-loop
 least-requires : tie.Need-least-requires Inv-loop μ-loop
 least-requires c κs = search needs
 
--- As many names as are asked for, or all.
-within : (c : tie.After-least Inv-loop μ-loop) → c .least .result ≤ length (c .before .args .t1)
-within c = omega (arith, c .before .good .0 .1 .0 .1)
+abbrev spare : Name
+spare = record { bytes = []; len = 0 }
 
+seen : (c : tie.In-loop Inv-loop μ-loop)
+    → let a = c .before .before in
+    Seen (take (a .least .result) (map viewName (a .before .args .t1))) (a .least .result) (c .before .loop .i)
+    (viewName (getD (a .before .args .t1) (c .before .loop .i) spare))
+seen c =
+    let a = c .before .before in
+    view-next viewName (a .before .args .t1) spare (omega (arith, a .before .good .0 .1 .0 .1)) (c .loop-test .taken)
+
+-- As many names as are asked for, or all.
 asked : (c : tie.After-least Inv-loop μ-loop)
     → any (bad-text 16) (take (c .least .result) (map viewName (c .before .args .t1))) ≡ any (bad-text 16) (take (c .before .args .n) (map viewName (c .before .args .t1)))
 asked c =
@@ -48,8 +58,7 @@ is-bad-requires c κs = search needs
 returns : tie.Need-returns Inv-loop μ-loop
 returns c =
     let d = c .before .before .before in
-    let s = view-next viewName (d .before .before .before .args .t1) (record { bytes = []; len = 0 }) (within (d .before .before)) (d .loop-test .taken) in
-    scan-stop (d .before .loop .inv) s (any-hit (bad-text 16) (sym (c .before .is-bad .ensures) ∙ c .if1 .taken)) ∙ asked (d .before .before)
+    scan-stop (d .before .loop .inv) (seen d) (any-hit (bad-text 16) (sym (c .before .is-bad .ensures) ∙ c .if1 .taken)) ∙ asked (d .before .before)
 
 add-i : tie.Need-add-i Inv-loop μ-loop
 add-i c = search needs
@@ -60,8 +69,7 @@ loop-less c = search needs
 loop-again : tie.Need-loop-again Inv-loop μ-loop
 loop-again c =
     let d = c .before .before .before in
-    let s = view-next viewName (d .before .before .before .args .t1) (record { bytes = []; len = 0 }) (within (d .before .before)) (d .loop-test .taken) in
-    scan-next (d .before .loop .inv) s (any-miss (bad-text 16) (sym (c .before .is-bad .ensures) ∙ c .if1 .left))
+    scan-next (d .before .loop .inv) (seen d) (any-miss (bad-text 16) (sym (c .before .is-bad .ensures) ∙ c .if1 .left))
 
 returns-2 : tie.Need-returns-2 Inv-loop μ-loop
 returns-2 c =

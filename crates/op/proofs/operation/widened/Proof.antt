@@ -1,3 +1,4 @@
+-- Four names, each at its place.
 use mathlib.Core.List.{[], _++_, map}
 use mathlib.Core.Path.{sym, ap}
 use lib.ListN.{replicate}

@@ -1,3 +1,4 @@
+-- After i turns the first i bytes stand in `out`.
 use Prim.Native.Nat.{_-_}
 use mathlib.Core.Path.{ap₂, refl, sym, _∙_}
 use mathlib.Core.List.{_++_}

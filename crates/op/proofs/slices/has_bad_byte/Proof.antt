@@ -1,3 +1,4 @@
+-- A search: what is left gives what the whole gives.
 use Prim.Native.Nat.{ℕ, _-_}
 use lib.ListN.{length, drop-of-length-le}
 use borrow.Author.Needs.{needs}

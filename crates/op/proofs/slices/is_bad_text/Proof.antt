@@ -1,3 +1,4 @@
+-- A length past the array, or the bytes up to the length.
 use mathlib.Core.Path.{sym, _∙_}
 use lib.Seq.{length-take-le}
 use borrow.Author.Needs.{needs}

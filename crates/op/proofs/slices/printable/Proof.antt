@@ -1,3 +1,4 @@
+-- Below 0x20, above 0x7E, or between.
 use Prim.Native.Nat.{ℕ, _≤_}
 use mathlib.Core.Logic.{by-cases}
 use mathlib.Core.Bool.{not}

@@ -1,3 +1,4 @@
+-- Byte by byte: what is left of both gives what the whole gives.
 use Prim.Native.Nat.{_-_}
 use mathlib.Core.Path.{sym}
 use native.Mathlib.Omega.{arith}

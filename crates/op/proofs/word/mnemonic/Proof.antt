@@ -1,3 +1,4 @@
+-- The part between the two places that the scans find.
 use mathlib.Core.Path.{refl, sym}
 use lib.Seq.{length-take-le}
 use borrow.Author.Needs.{needs}

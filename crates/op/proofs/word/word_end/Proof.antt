@@ -1,3 +1,4 @@
+-- The first i bytes are of the word.
 use Prim.Native.Nat.{_-_}
 use lib.ListN.{length}
 use borrow.Author.Needs.{needs}

@@ -1,3 +1,4 @@
+-- What is left, without its leading spaces, is the whole without them.
 use Prim.Native.Nat.{_-_}
 use lib.ListN.{length}
 use borrow.Author.Needs.{needs}
