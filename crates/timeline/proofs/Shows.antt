@@ -1,5 +1,5 @@
 -- What a view shows of a row, of a byte and of a cell.
-use Prim.Native.Nat.{ℕ, _+_, _*_, _/_, _%_, _≤_, _<_}
+use Prim.Native.Nat.{ℕ, _+_, _-_, _*_, _/_, _%_, _≤_, _<_}
 use mathlib.Core.Path.{_≡_, refl, sym, ap, ap₂, _∙_}
 use mathlib.Core.Bool.{Bool, true, false, cond, _&&_}
 use mathlib.Core.Option.{Option, none, some}
@@ -11,7 +11,7 @@ use borrow.Author.Tests.{lt-ltb, le-ltb}
 use Rattle.laws.specs.Optional.{when-some, omap}
 use Rattle.laws.specs.Lists.{nth}
 use Rattle.laws.proofs.Tests.{cond-yes, cond-no, cond-ne, cond-lt, cond-ge, and-yes, and-no, and-no-second}
-use Rattle.laws.proofs.Slices.{nth-getD}
+use Rattle.laws.proofs.Slices.{nth-getD, getD-any, All-getD}
 use Rattle.capability.specs.declared.PipelineTimelineState.{PipelineTimelineState}
 use Rattle.capability.specs.declared.PipelineTimelineState.the-variants as cell
 use Rattle.capability.specs.declared.PipelineStageRole.{PipelineStageRole}
@@ -19,10 +19,34 @@ use Rattle.capability.specs.declared.PipelineStageRole.the-variants as role
 use Rattle.model.specs.Timeline.{Row, cell-at, timeline}
 use Rattle.model.specs.Views.{row-view, cell-state, label-role, cell-view, CellView}
 use Rattle.model.specs.Calls.{Answer, refused, shown-row, shown-cell, first-of}
+use Rattle.laws.proofs.Choices.{none-some}
+use Rattle.op.specs.declared.MaybeText.{MaybeText}
+use Rattle.op.specs.View.{viewText, viewMaybeText}
+use Rattle.timeline.specs.declared.Tracks.{Tracks}
+use Rattle.timeline.specs.declared.RowTexts.{RowTexts}
 use Rattle.timeline.specs.declared.MaybeRow.{MaybeRow}
+use Rattle.timeline.specs.declared.MaybeRow.the-variants as maybe
 use Rattle.timeline.specs.declared.PipelineTimelineRow.{PipelineTimelineRow}
 use Rattle.timeline.specs.declared.Window.{Window}
-use Rattle.timeline.specs.View.{shown, shown-or-none, viewRow, row-answer, ShowsRow, WindowOk, SlotOf}
+use Rattle.timeline.specs.View.{
+  row-at,
+  first-track,
+  no-text,
+  viewRows,
+  WindowOk,
+  TracksOk,
+  RowTextOk,
+  RowTextsOk,
+  SlotOf,
+  shown,
+  shown-or-none,
+  viewRow,
+  row-answer,
+  ShowsRow,
+  ShowsText,
+}
+use Rattle.timeline.proofs.Grows.{spare, spare-text}
+use Rattle.timeline.proofs.Steps.{rows-end, rows-nth}
 use Rattle.timeline.specs.Cells.{bare, cell-reply}
 
 -- ── A row ───────────────────────────────────────────────────────────────────
@@ -34,6 +58,41 @@ row-answers (some r) = refl
 
 pub shows-row : {o : Option Row} {r : MaybeRow} → r ≡ shown-or-none o → ShowsRow o r
 shows-row {o} e = record { is = e; answer = ap row-answer e ∙ row-answers o }
+
+pub shows-no-text : {w : Window} {xs : RowTexts} {k : ℕ} {r : MaybeText} → w .held ≤ k → viewMaybeText r ≡ none → ShowsText w xs k r
+unfolding viewMaybeText
+shows-no-text {w} {xs} {r = r} h e =
+    record {
+      is = λ ts. e ∙ sym (ap (omap (λ (row : Row). row .disassembly)) (rows-end w ts xs h));
+      fits = λ q. none-some (viewText (r .text)) (sym e ∙ cond-yes _ _ q);
+    }
+
+module _ (w : Window) {xs : RowTexts} (ok : WindowOk w) (xok : RowTextsOk xs) {k i s : ℕ} (h : k < w .held) (p : i ≡ w .next - w .held + k)
+    (q : SlotOf w i s) where
+  there : s < 256
+  there = omega (arith, q .below, ok .most)
+
+  -- What the code reads of the row, by what a read past the end would give.
+  pub shows-read : {ts : Tracks} → TracksOk ts
+      → ShowsRow (nth (viewRows w ts xs) k) (maybe.Some (shown (row-at i (getD (ts .items) s spare) (getD (xs .items) s spare-text))))
+  unfolding shown-or-none
+  shows-read {ts} tok =
+      shows-row
+      (ap₂ (λ t x. maybe.Some (shown (row-at i t x)))
+      (getD-any (ts .items) spare (first-track 0) (omega (arith, tok .size, there)))
+      (getD-any (xs .items) spare-text no-text (omega (arith, xok .size, there)))
+      ∙ sym (ap shown-or-none (rows-nth w ts xs h p q)))
+
+  pub shows-text : ShowsText w xs k (record { some = true; text = getD (xs .items) s spare-text .disassembly })
+  unfolding viewMaybeText
+  shows-text =
+      let here : s < length (xs .items) = omega (arith, xok .size, there) in
+      record {
+        is = λ ts.
+            ap (λ x. some (viewText (x .disassembly))) (getD-any (xs .items) spare-text no-text here)
+            ∙ sym (ap (omap (λ (row : Row). row .disassembly)) (rows-nth w ts xs h p q));
+        fits = λ e. All-getD RowTextOk (xs .items) spare-text (xok .each) here .fits;
+      }
 
 -- ── A byte ──────────────────────────────────────────────────────────────────
 

@@ -31,6 +31,7 @@ use Rattle.timeline.specs.View.{
   RowTextsOk,
   all-tracks,
   all-texts,
+  no-rows,
   opened,
   SlotOf,
   Grown,
@@ -46,12 +47,6 @@ module _ (h : ℕ) (ts : List Track) (xs : List RowText) (x : ℕ) where
   pub held-id : held-row h ts xs x .id ≡ x
   unfolding held-row
   held-id = refl
-
-  -- whatever a read past the end would give
-  pub held-at : (d : Track) (e : RowText) → x % h < length ts → x % h < length xs
-      → held-row h ts xs x ≡ row-at x (getD ts (x % h) d) (getD xs (x % h) e)
-  unfolding held-row
-  held-at d e k l = ap₂ (row-at x) (getD-any ts (first-track 0) d k) (getD-any xs no-text e l)
 
   -- a store in another slot
   pub held-other : (s : ℕ) (t : Track) (y : RowText) → (x % h ≡ s → ⊥) → held-row h (set ts s t) (set xs s y) x ≡ held-row h ts xs x
@@ -232,20 +227,27 @@ module _ {w : Window} (ok : WindowOk w) {i : ℕ} (gone : (i < w .next - w .held
       (ap (λ ws. write-all ws m)
       (from-no-writes rows (held-id (w .history) (ts .items) (xs .items)) i (w .history) byte (w .next - w .held) (w .held) outside))
 
--- ── A row read ──────────────────────────────────────────────────────────────
+-- ── Rows read ───────────────────────────────────────────────────────────────
 
-module _ (w : Window) (ts : Tracks) (xs : RowTexts) {k : ℕ} where
-  pub rows-end : w .held ≤ k → nth (viewRows w ts xs) k ≡ none
-  unfolding viewRows
-  rows-end h = nth-end _ (rw (from-length (held-row (w .history) (ts .items) (xs .items)) (w .next - w .held) (w .held)) h)
+module _ (w : Window) (ts : Tracks) (xs : RowTexts) where
+  abbrev rows : ℕ → Row
+  rows = held-row (w .history) (ts .items) (xs .items)
 
-  -- i is the row's id, s its slot.
-  pub rows-nth : {i s : ℕ} (d : Track) (e : RowText) → WindowOk w → TracksOk ts → RowTextsOk xs → k < w .held → i ≡ w .next - w .held + k → SlotOf w i s
-      → nth (viewRows w ts xs) k ≡ some (row-at i (getD (ts .items) s d) (getD (xs .items) s e))
+  pub rows-count : length (viewRows w ts xs) ≡ w .held
   unfolding viewRows
-  rows-nth {i} {s} d e ok tok xok h p q =
-      from-nth (held-row (w .history) (ts .items) (xs .items)) (w .next - w .held) (w .held) h
-      ∙ ap (λ j. some (held-row (w .history) (ts .items) (xs .items) j)) (sym p)
-      ∙ ap some
-      (held-at (w .history) (ts .items) (xs .items) i d e (omega (arith, tok .size, mod-lt i (ok .least), ok .most)) (omega (arith, xok .size, mod-lt i (ok .least), ok .most))
-      ∙ ap (λ j. row-at i (getD (ts .items) j d) (getD (xs .items) j e)) (sym (q .is)))
+  rows-count = from-length rows (w .next - w .held) (w .held)
+
+  pub rows-end : {k : ℕ} → w .held ≤ k → nth (viewRows w ts xs) k ≡ none
+  rows-end h = nth-end (viewRows w ts xs) (rw rows-count h)
+
+  -- The row of id i stands in slot s.
+  pub rows-nth : {k i s : ℕ} → k < w .held → i ≡ w .next - w .held + k → SlotOf w i s
+      → nth (viewRows w ts xs) k ≡ some (row-at i (getD (ts .items) s (first-track 0)) (getD (xs .items) s no-text))
+  unfolding viewRows held-row
+  rows-nth {k} {i} h p q =
+      from-nth rows (w .next - w .held) (w .held) h ∙ ap (λ j. some (rows j)) (sym p)
+      ∙ ap (λ j. some (row-at i (getD (ts .items) j (first-track 0)) (getD (xs .items) j no-text))) (sym (q .is))
+
+pub no-rows-shown : (h : ℕ) (ts : Tracks) (xs : RowTexts) → viewRows (no-rows h) ts xs ≡ []
+unfolding viewRows from
+no-rows-shown h ts xs = refl

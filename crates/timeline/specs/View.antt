@@ -1,16 +1,17 @@
 -- What the parts mean to the model: together they are its list of rows, oldest first.
 use Prim.Native.Nat.{ℕ, zero, suc, _+_, _-_, _%_, _≤_, _<_, min}
 use mathlib.Core.Path.{_≡_}
-use mathlib.Core.Bool.{false, cond}
+use mathlib.Core.Bool.{true, false, cond}
 use mathlib.Core.Option.{Option, none, some}
 use mathlib.Core.List.{List, [], _∷_}
 use lib.Dec.{ltb}
 use lib.ListN.{length, getD, replicate}
-use Rattle.laws.specs.Lists.{All}
+use Rattle.laws.specs.Lists.{All, nth}
 use Rattle.laws.specs.Optional.{omap}
 use Rattle.capability.specs.declared.PipelineInstructionClass.the-variants.{Unknown}
 use Rattle.op.specs.declared.Text.{Text as TextBytes}
-use Rattle.op.specs.View.{viewText}
+use Rattle.op.specs.declared.MaybeText.{MaybeText}
+use Rattle.op.specs.View.{viewText, viewMaybeText}
 use Rattle.model.specs.Timeline.{Row, row-of, add-cell, push}
 use Rattle.model.specs.Views.{RowView, row-view}
 use Rattle.model.specs.Calls.{Answer, shown-row}
@@ -154,3 +155,8 @@ row-answer maybe.Nothing = shown-row none
 pub record ShowsRow (o : Option Row) (r : MaybeRow) : Type 0 where
   pub is : r ≡ shown-or-none o
   pub answer : row-answer r ≡ shown-row (omap row-view o)
+
+-- The text of the row at an index, whatever the tracks; where it is there it fits its array.
+pub record ShowsText (w : Window) (xs : RowTexts) (k : ℕ) (r : MaybeText) : Type 0 where
+  pub is : (ts : Tracks) → viewMaybeText r ≡ omap (λ (row : Row). row .disassembly) (nth (viewRows w ts xs) k)
+  pub fits : r .some ≡ true → r .text .len ≤ 64

@@ -1,13 +1,14 @@
 // The rows of past cycles (pipeline/timeline.rs). What moves each cycle is apart from what stays as it was opened, and the cells stand in lent
 // memory: row id r in slot r mod history, 200 bytes a slot, its cell c (from 0 at opening) at byte c mod 200.
 use capability::PipelineInstructionClass;
+use op::MaybeText;
 use op::Text;
 
 // The lent cell memory, and the view of a cell.
 pub mod cells;
 
 ghost use mathlib.Core.Path.{_≡_};
-ghost use Prim.Native.Nat.{ℕ, _+_, _*_, _%_, _<_, _≤_, max};
+ghost use Prim.Native.Nat.{ℕ, _+_, _-_, _*_, _%_, _<_, _≤_, max};
 ghost use lib.ListN.{length, set, replicate};
 ghost use Rattle.laws.specs.Means.{Means};
 ghost use Rattle.laws.specs.Lists.{nth};
@@ -32,6 +33,7 @@ ghost use Rattle.timeline.specs.View.{
   Grown,
   Pushed,
   ShowsRow,
+  ShowsText,
 };
 
 // What moves each cycle: the first cycle shown, the cells held, the byte of the oldest.
@@ -120,6 +122,15 @@ impl Window {
         ensures { λ r. ⌜ SlotOf self id r ⌝ }
     {
         (id % (self.history as u64)) as usize
+    }
+
+    // The id of the row at an index, oldest first.
+    pub fn id_at(self, index: usize) -> u64
+        requires { ⌜ WindowOk self ⌝ }
+        requires { ⌜ index < self .held ⌝ }
+        ensures { λ r. ⌜ r ≡ self .next - self .held + index ⌝ }
+    {
+        self.next - self.held as u64 + index as u64
     }
 
     // The slot of a row id, where the row is held.
@@ -262,6 +273,21 @@ impl RowTexts {
         xs.items[s] = row;
         xs
     }
+
+    // The text of the row at an index, oldest first.
+    pub fn disassembly(self, window: Window, index: usize) -> MaybeText
+        requires { ⌜ WindowOk window ⌝ }
+        requires { ⌜ RowTextsOk self ⌝ }
+        ensures { λ r. ⌜ ShowsText window self index r ⌝ }
+    {
+        if window.held <= index {
+            return MaybeText::none();
+        }
+        let s = window.slot(window.id_at(index));
+        let x = self.items[s];
+        let text = x.disassembly;
+        MaybeText { some: true, text }
+    }
 }
 
 // Timeline::row: the numbers of the row at an index, oldest first.
@@ -274,7 +300,7 @@ pub fn row(window: Window, tracks: Tracks, texts: RowTexts, index: usize) -> May
     if window.held <= index {
         return MaybeRow::Nothing;
     }
-    let id = window.next - window.held as u64 + index as u64;
+    let id = window.id_at(index);
     let s = window.slot(id);
     let t = tracks.items[s];
     let x = texts.items[s];

@@ -1,0 +1,116 @@
+// The texts of a cycle's waits (pipeline/timeline.rs, `Trace`), as ooo/scoreboard.rs formats them, and the texts that views show.
+use texts::Written;
+use texts::write_hex;
+use texts::write_three;
+
+// Texts written to a lent buffer.
+pub mod texts;
+
+ghost use mathlib.Core.Option.{some};
+ghost use Rattle.model.specs.Op.{first-word};
+ghost use Rattle.model.specs.Traces.{render, overwrites, memory-order, waits-for};
+ghost use Rattle.traces.specs.Texts.{Wrote};
+ghost use Rattle.traces.specs.Waits.{detail-of};
+
+// What a wait is for. WaitsForOlder is WaitsFor without a producer.
+pub enum WaitForm {
+    Overwrites,
+    MemoryOrder,
+    Drains,
+    WaitsFor,
+    WaitsForOlder,
+    BehindBranch,
+    BehindSystem,
+    StillWrites,
+    AllBusy,
+    RedirectTo,
+}
+
+fn write_overwrites(mine: &[u8], register: &[u8], reader: &[u8], out: &mut [u8]) -> Written
+    ensures { λ r. ⌜ Wrote (some (render (overwrites (now (mine .entry)) (now (register .entry)) (now (reader .entry))))) (now (out .entry)) (now (out .exit)) r ⌝ }
+{
+    texts::write_parts(
+        mine,
+        b" may not overwrite ",
+        register,
+        b" until ",
+        reader,
+        b" has read it",
+        out,
+    )
+}
+
+fn write_memory_order(mine: &[u8], older: &[u8], out: &mut [u8]) -> Written
+    ensures { λ r. ⌜ Wrote (some (render (memory-order (now (mine .entry)) (now (older .entry))))) (now (out .entry)) (now (out .exit)) r ⌝ }
+{
+    let none = &mine[..0];
+    texts::write_parts(
+        mine,
+        b" waits for ",
+        older,
+        b" \xE2\x80\x94 memory keeps program order",
+        none,
+        none,
+        out,
+    )
+}
+
+// The producer's word, or "an older instruction".
+fn write_waits_for(mine: &[u8], register: &[u8], producer: &[u8], out: &mut [u8]) -> Written
+    ensures { λ r. ⌜ Wrote (some (render (waits-for (now (mine .entry)) (now (register .entry)) (some (now (producer .entry)))))) (now (out .entry)) (now (out .exit)) r ⌝ }
+{
+    let none = &mine[..0];
+    texts::write_parts(
+        mine,
+        b" waits for ",
+        register,
+        b" from ",
+        producer,
+        none,
+        out,
+    )
+}
+
+// The text of a wait: `mine` and `other` are the disassembly of the operation that waits and of the one waited for, `register` the register's
+// name, or the kind's for AllBusy. A form reads only the words that its text has.
+pub fn write_wait(
+    form: WaitForm,
+    mine: &[u8],
+    register: &[u8],
+    other: &[u8],
+    target: u64,
+    out: &mut [u8],
+) -> Written
+    ensures { λ r. ⌜ Wrote (some (render (detail-of form (first-word (now (mine .entry))) (now (register .entry)) (first-word (now (other .entry))) target))) (now (out .entry)) (now (out .exit)) r ⌝ }
+{
+    let none = &mine[..0];
+    let m = op::word::mnemonic(mine, b"?");
+    let o = op::word::mnemonic(other, b"?");
+    match form {
+        WaitForm::Overwrites => write_overwrites(m, register, o, out),
+        WaitForm::MemoryOrder => write_memory_order(m, o, out),
+        WaitForm::Drains => write_three(m, b" waits for the machine to drain", none, out),
+        WaitForm::WaitsFor => write_waits_for(m, register, o, out),
+        WaitForm::WaitsForOlder => write_waits_for(m, register, b"an older instruction", out),
+        WaitForm::BehindBranch => write_three(
+            m,
+            b" cannot issue behind an unresolved branch",
+            none,
+            out,
+        ),
+        WaitForm::BehindSystem => write_three(
+            m,
+            b" waits \xE2\x80\x94 a system instruction serializes",
+            none,
+            out,
+        ),
+        WaitForm::StillWrites => write_three(
+            m,
+            b" must wait \xE2\x80\x94 an older instruction still writes ",
+            register,
+            out,
+        ),
+        WaitForm::AllBusy => write_three(b"all ", register, b" units are busy", out),
+        WaitForm::RedirectTo => write_hex(b"redirect to 0x", target, out),
+    }
+}
