@@ -1,0 +1,3 @@
+pub mod Digest
+pub mod Lists
+pub mod Sample

@@ -1,0 +1,78 @@
+//! Lists of calls played on the Rust engine, and what it answered and showed, for the model to be
+//! held against. docs/SAMPLES.md says what is compared and how to make more.
+
+mod call;
+mod coverage;
+mod driver;
+mod find;
+mod generate;
+mod numbers;
+mod play;
+mod rng;
+mod write;
+
+include!(concat!(env!("OUT_DIR"), "/raven.rs"));
+
+use std::process::ExitCode;
+
+fn main() -> ExitCode {
+    let words: Vec<String> = std::env::args().skip(1).collect();
+    let words: Vec<&str> = words.iter().map(String::as_str).collect();
+    let number = |word: &str| word.parse::<u64>().ok();
+    match words.as_slice() {
+        ["coverage", seed, count] => {
+            if let (Some(seed), Some(count)) = (number(seed), number(count)) {
+                return coverage(seed, count);
+            }
+        }
+        ["sample", seed, count, folder] => {
+            if let (Some(seed), Some(count)) = (number(seed), number(count)) {
+                return write::sample(seed, count, folder);
+            }
+        }
+        ["choose", seed, pool, count, folder] => {
+            if let (Some(seed), Some(pool), Some(count)) =
+                (number(seed), number(pool), number(count))
+            {
+                return write::choose(seed, pool, count, folder);
+            }
+        }
+        ["find", seed, folder] => {
+            if let Some(seed) = number(seed) {
+                return find::find(seed, folder, None);
+            }
+        }
+        ["find", seed, folder, at] => {
+            if let (Some(seed), Some(at)) = (number(seed), number(at)) {
+                return find::find(seed, folder, Some(at as usize));
+            }
+        }
+        ["at", seed, at, place] => {
+            if let (Some(seed), Some(at), Some(place)) = (number(seed), number(at), number(place)) {
+                return find::at(seed, at as usize, place as usize);
+            }
+        }
+        _ => {}
+    }
+    eprintln!(
+        "harness sample SEED COUNT FOLDER         writes COUNT lists into the crate at FOLDER"
+    );
+    eprintln!(
+        "harness choose SEED POOL COUNT FOLDER    the same, with COUNT of POOL that reach much"
+    );
+    eprintln!(
+        "harness coverage SEED COUNT              plays COUNT lists and says what they reached"
+    );
+    eprintln!("harness find SEED FOLDER [NUMBER]        for find.sh");
+    eprintln!("harness at SEED NUMBER PLACE             for find.sh");
+    ExitCode::from(2)
+}
+
+fn coverage(seed: u64, count: u64) -> ExitCode {
+    let mut all = coverage::Coverage::default();
+    for index in 0..count {
+        all.add(&generate::generate(seed.wrapping_add(index)).coverage);
+    }
+    print!("{all}");
+    ExitCode::SUCCESS
+}
