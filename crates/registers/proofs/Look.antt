@@ -61,6 +61,11 @@ pub through-end : (m : ℕ) → max m (through []) ≡ m
 unfolding through
 through-end m = omega arith
 
+pub through-append : (ks ls : List ℕ) → through (ks ++ ls) ≡ max (through ks) (through ls)
+unfolding through
+through-append [] ls = omega arith
+through-append (k ∷ ks) ls = omega (arith, through-append ks ls)
+
 -- ── A look at an operation ────────────────────────────────────────────────────
 
 module _ (ns : List Text) (i : Info) where

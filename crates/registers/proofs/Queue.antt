@@ -3,13 +3,15 @@ use Prim.Native.Nat.{ℕ, max}
 use mathlib.Core.Path.{_≡_, sym, subst, ap, ap₂, _∙_}
 use mathlib.Core.Bool.{true, not}
 use mathlib.Core.Option.{Option}
-use mathlib.Core.List.{List, [], _∷_, _++_}
+use mathlib.Core.List.{List, [], _∷_, _++_, map}
 use lib.Dec.{ltb}
 use lib.ListN.{length, take, replicate, length-replicate}
 use Rattle.laws.specs.Means.{Means}
 use Rattle.laws.specs.Texts.{Text}
 use Rattle.laws.proofs.Tests.{cond-yes}
-use Rattle.model.specs.Op.{Info}
+use Rattle.model.specs.Op.{Info, Op}
+use Rattle.model.specs.State.{State}
+use Rattle.model.specs.Calls.{names-with}
 use Rattle.model.specs.Registers.{intern-all, resolve, pad}
 use Rattle.registers.specs.declared.RegisterTable.{RegisterTable}
 use Rattle.registers.specs.declared.Resolved.{Resolved}
@@ -18,7 +20,7 @@ use Rattle.registers.specs.Contracts.{viewResolved, ResolvedTo}
 use Rattle.registers.specs.Look.{through, Numbers, numbers-of, queue-names, Queued}
 use Rattle.registers.proofs.NameTable.{known-length}
 use Rattle.registers.proofs.Owing.{pad-length}
-use Rattle.registers.proofs.Look.{queue-laws}
+use Rattle.registers.proofs.Look.{queue-laws, queue-names-in}
 
 -- The queue q with the numbers ks, over the table.
 abbrev pub Along : RegisterTable → List Info → List Numbers → Type 0
@@ -31,6 +33,14 @@ module _ {t : RegisterTable} {q : List Info} {ks : List Numbers} (e : Along t q 
     fetch-fits =
         f .fits
         ∙ ap (λ l. not (ltb 256 (length l))) (sym (queue-laws .counted (viewKnown t) (viewHeld t) q ks (i .sources ++ i .writes) e))
+
+    -- That is refusal 10, where the table knows the engine's names and q is its queue.
+    pub fetch-refused : (s : State) → viewKnown t ≡ s .names → q ≡ map (λ (o : Op). o .info) (s .queue) → r .fits ≡ not (ltb 256 (names-with s i))
+    unfolding names-with
+    fetch-refused s known queue =
+        fetch-fits
+        ∙ ap₂ (λ ns l. not (ltb 256 (length (intern-all ns (l ++ (i .sources ++ i .writes)) .names)))) known
+        (ap queue-names queue ∙ sym (queue-names-in (s .queue)))
 
     pub fetch-queued : r .fits ≡ true → Along (r .table) (q ++ i ∷ []) (ks ++ numbers-of (viewResolved r) ∷ [])
     fetch-queued h =

@@ -18,6 +18,7 @@ use Rattle.model.specs.Calls.{bad-text, bad-info, too-many, bad-byte}
 use Rattle.op.specs.declared.Name.{Name}
 use Rattle.op.specs.declared.PipelineOp.{PipelineOp}
 use Rattle.op.specs.View.{listed, viewName, viewOp}
+use Rattle.op.proofs.Firsts.{four}
 use Rattle.op.proofs.Names.{listed-length, listed-within, listed-first}
 use Rattle.registers.specs.declared.RegisterTable.{RegisterTable}
 use Rattle.registers.specs.declared.Resolved.{Resolved}
@@ -106,6 +107,11 @@ first-four (a ∷ []) m h k = absurd (let z : ⊥ = omega arith in z)
 first-four (a ∷ b ∷ []) m h k = absurd (let z : ⊥ = omega arith in z)
 first-four (a ∷ b ∷ c ∷ []) m h k = absurd (let z : ⊥ = omega arith in z)
 first-four (a ∷ b ∷ c ∷ d ∷ l) m h k = take-take m 4 (a ∷ b ∷ c ∷ d ∷ l) k
+
+-- Four numbers with four more behind them.
+pub four-wide : (l : List ℕ) (m : ℕ) → length l ≡ 4 → m ≤ 4
+    → take m (getD l 0 0 ∷ getD l 1 0 ∷ getD l 2 0 ∷ getD l 3 0 ∷ 0 ∷ 0 ∷ 0 ∷ 0 ∷ []) ≡ take m l
+four-wide l m h k = ap (λ t. take m (t ++ 0 ∷ 0 ∷ 0 ∷ 0 ∷ [])) (sym (four l 0 h)) ∙ take-append-le m l (0 ∷ 0 ∷ 0 ∷ 0 ∷ []) (omega arith)
 
 -- ── What comes back ───────────────────────────────────────────────────────────
 

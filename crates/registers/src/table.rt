@@ -171,11 +171,11 @@ impl RegisterTable {
         let writes = widened(own);
         let n = op.sources_len;
         let m = op.writes_len;
-        let held = self.find_all(reads, n);
-        let kept = self.find_all(writes, m);
-        if held.all && kept.all {
-            let r = held.numbers;
-            let w = kept.numbers;
+        let held_reads = self.find_all(reads, n);
+        let held_writes = self.find_all(writes, m);
+        if held_reads.all && held_writes.all {
+            let r = held_reads.numbers;
+            let w = held_writes.numbers;
             return resolved(self, r, n, w, m);
         }
         let read = self.intern_all(reads, n);
@@ -188,9 +188,9 @@ impl RegisterTable {
             return unresolved(self);
         }
         let table = written.table;
-        let r2 = read.numbers;
-        let w2 = written.numbers;
-        resolved(table, r2, n, w2, m)
+        let rs = read.numbers;
+        let ws = written.numbers;
+        resolved(table, rs, n, ws, m)
     }
 
     // A look: the first `through` of the names held are known.
@@ -272,17 +272,29 @@ fn reach(most: usize, register: u8) -> usize
     if most < k { k } else { most }
 }
 
-// One more than the largest of the first n registers: so many names a look at them makes known.
-pub fn through(registers: [u8; 8], n: u8) -> usize
+// The same for each of the first n registers.
+fn reach_all(most: usize, registers: [u8; 8], n: u8) -> usize
     requires { ⌜ n ≤ 8 ⌝ }
-    ensures { λ r. ⌜ r ≡ through (take n registers) ⌝ }
+    ensures { λ r. ⌜ r ≡ max most (through (take n registers)) ⌝ }
 {
     let end = n as usize;
-    let mut most: usize = 0;
+    let mut all = most;
     let mut i: usize = 0;
     while i < end {
-        most = reach(most, registers[i]);
+        all = reach(all, registers[i]);
         i += 1;
     }
-    most
+    all
+}
+
+// One more than the largest of an operation's registers: so many names a look at it makes known.
+pub fn through(sources: [u8; 8], n: u8, destinations: [u8; 4], m: u8) -> usize
+    requires { ⌜ n ≤ 8 ⌝ }
+    requires { ⌜ m ≤ 4 ⌝ }
+    ensures { λ r. ⌜ r ≡ through (take n sources ++ take m destinations) ⌝ }
+{
+    let d = destinations;
+    let wide = [d[0], d[1], d[2], d[3], 0, 0, 0, 0];
+    let read = reach_all(0, sources, n);
+    reach_all(read, wide, m)
 }

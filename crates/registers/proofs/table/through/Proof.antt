@@ -1,52 +1,48 @@
-use Prim.Native.Nat.{ℕ, _-_, max}
-use mathlib.Core.Path.{_≡_, _∙_}
+use Prim.Native.Nat.{max}
+use mathlib.Core.Path.{_≡_, sym, ap, ap₂, _∙_}
 use native.Mathlib.Omega.{arith}
 use lib.ListN.{take}
 use borrow.Author.Needs.{needs}
-use Rattle.laws.proofs.Search.{Scan, scan-first, scan-next, scan-last}
-use Rattle.laws.proofs.Slices.{slice-next, slice-end}
 use Rattle.registers.specs.Look.{through}
-use Rattle.registers.proofs.Look.{through-next, through-end}
+use Rattle.registers.proofs.Resolving.{four-wide}
+use Rattle.registers.proofs.Look.{through-append}
 use Rattle.registers.proofs.table.through.Statement.{statement}
 use Rattle.registers.proofs.table.through.Tie as tie
 
-abbrev Inv-loop : tie.InvT-loop
-Inv-loop n registers end most₀ i₀ most i = Scan (λ (m : ℕ) ks. max m (through ks)) 0 (take n registers) end most i
+array-read-t10 : tie.Need-array-read-t10
+array-read-t10 c = search needs
 
-abbrev μ-loop : tie.MeasureT-loop
-μ-loop n registers end most₀ i₀ most i = end - i
+array-read-t13 : tie.Need-array-read-t13
+array-read-t13 c = search needs
 
-loop-holds : tie.Need-loop-holds Inv-loop μ-loop
-loop-holds c = scan-first
+array-read-t16 : tie.Need-array-read-t16
+array-read-t16 c = search needs
 
-array-read-reach : tie.Need-array-read-reach Inv-loop μ-loop
-array-read-reach c = search needs
+array-read-t19 : tie.Need-array-read-t19
+array-read-t19 c = search needs
 
-reach-requires : tie.Need-reach-requires Inv-loop μ-loop
-reach-requires c κs = tt
+reach-all-requires : tie.Need-reach-all-requires
+reach-all-requires c κs = search needs
 
-add-i : tie.Need-add-i Inv-loop μ-loop
-add-i c = search needs
+reach-all-requires-2 : tie.Need-reach-all-requires-2
+reach-all-requires-2 c κs = search needs
 
-loop-less : tie.Need-loop-less Inv-loop μ-loop
-loop-less c = search needs
-
-loop-again : tie.Need-loop-again Inv-loop μ-loop
-loop-again c = let d = c .before in scan-next (d .before .loop .inv) (slice-next (d .before .before .args .t1) 0 (omega arith) (d .loop-test .taken)) (through-next _ _ (c .reach .ensures))
-
-returns : tie.Need-returns Inv-loop μ-loop
-returns c = scan-last (c .before .loop .inv) (slice-end _ (c .loop-test .left)) (through-end _) ∙ (let z : max 0 _ ≡ _ = omega arith in z)
+returns : tie.Need-returns
+returns c =
+    let s = c .before .before in
+    let a = s .args in
+    let read : c .before .reach-all .result ≡ through (take (a .n) (a .sources)) = omega (arith, c .before .reach-all .ensures) in
+    c .reach-all2 .ensures ∙ ap₂ max read (ap through (four-wide (a .destinations) (a .m) (omega arith) (s .pre .1)))
+    ∙ sym (through-append (take (a .n) (a .sources)) (take (a .m) (a .destinations)))
 
 pub through-spec : {M : Type 1} → statement M
 through-spec =
     tie.close
     (tie.spec
-    Inv-loop
-    μ-loop
-    loop-holds
-    array-read-reach
-    reach-requires
-    add-i
-    loop-less
-    loop-again
+    array-read-t10
+    array-read-t13
+    array-read-t16
+    array-read-t19
+    reach-all-requires
+    reach-all-requires-2
     returns)
