@@ -8,6 +8,7 @@ mod operation;
 // The first word of a text.
 pub mod word;
 
+pub use operation::widened;
 pub use slices::has_bad_byte;
 pub use slices::is_bad_text;
 pub use slices::printable;

@@ -199,7 +199,7 @@ fn at_least_one(n: u64) -> u64
 }
 
 // Four names with four empty ones after them.
-fn widened(names: [Name; 4]) -> [Name; 8]
+pub fn widened(names: [Name; 4]) -> [Name; 8]
     ensures { λ r. ⌜ map viewName r ≡ map viewName names ++ replicate 4 [] ⌝ }
 {
     let e = Name::empty();

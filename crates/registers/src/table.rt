@@ -7,11 +7,12 @@ use super::RegisterTable;
 use super::Resolved;
 use op::Name;
 use op::PipelineOp;
+use op::widened;
 ghost use mathlib.Core.Path.{_≡_};
 ghost use mathlib.Core.Bool.{false};
 ghost use mathlib.Core.List.{[], _++_, map};
 ghost use Prim.Native.Nat.{suc, _≤_, max};
-ghost use lib.ListN.{take, replicate};
+ghost use lib.ListN.{take};
 ghost use Rattle.laws.specs.Lists.{All};
 ghost use Rattle.laws.specs.Means.{Means};
 ghost use Rattle.model.specs.Registers.{get, intern, name-of};
@@ -250,18 +251,6 @@ fn resolved(table: RegisterTable, r: [u8; 8], n: u8, w: [u8; 8], m: u8) -> Resol
         destinations,
         destinations_len: m,
     }
-}
-
-// Four names with four empty ones after them.
-fn widened(names: [Name; 4]) -> [Name; 8]
-    ensures { λ r. ⌜ map viewName r ≡ map viewName names ++ replicate 4 [] ⌝ }
-{
-    let e = Name::empty();
-    let a = names[0];
-    let b = names[1];
-    let c = names[2];
-    let d = names[3];
-    [a, b, c, d, e, e, e, e]
 }
 
 // At least one more than a register.
