@@ -1,29 +1,18 @@
 -- The list of rows by a function of their ids: read, opened, and a cell pushed.
-use Prim.Native.Nat.{ℕ, zero, suc, _+_, _-_, _*_, _%_, _≤_, _<_, min}
+use Prim.Native.Nat.{ℕ, zero, suc, _+_, _-_, _≤_, _<_, min}
 use mathlib.Core.Path.{_≡_, refl, sym, ap, ap₂, _∙_}
-use mathlib.Core.Bool.{Bool, true, false, cond}
+use mathlib.Core.Bool.{cond}
 use mathlib.Core.Logic.{_⊎_, inl, inr, ⊎-elim}
 use mathlib.Core.Option.{some}
 use mathlib.Core.List.{List, [], _∷_, _++_}
 use native.Mathlib.Nat.{add-zero, not-suc-le-zero, le-of-suc-le-suc}
 use native.Mathlib.Omega.{arith}
 use lib.Dec.{eqb}
-use lib.ListN.{length, getD, set, drop, length-append}
-use lib.Seq.{getD-set-same, getD-set-other}
-use borrow.Author.Tests.{eqb-true, eqb-false, eq-eqb, ne-eqb}
+use lib.ListN.{length, drop}
 use Rattle.laws.specs.Lists.{nth}
-use Rattle.laws.specs.Means.{Means}
-use Rattle.laws.proofs.Tests.{cond-eq, cond-ne, cond-yes, cond-no, true-or-false, lt-or-ge}
-use Rattle.laws.proofs.Slices.{getD-any, All-set}
-use Rattle.model.specs.Timeline.{Row, add-cell, push, push-writes, next-place, open-row, write-all, timeline}
-use Rattle.timeline.specs.declared.Track.{Track}
-use Rattle.timeline.specs.declared.Tracks.{Tracks}
-use Rattle.timeline.specs.declared.RowText.{RowText}
-use Rattle.timeline.specs.declared.RowTexts.{RowTexts}
-use Rattle.timeline.specs.declared.Window.{Window}
-use Rattle.timeline.specs.View.{from, row-at, first-track, no-text, held-row, viewRows, WindowOk, TrackOk, TracksOk, Grown, Pushed, opened, all-tracks, all-texts, RowTextsOk}
-use Rattle.timeline.proofs.Memory.{splice-set}
-use Rattle.timeline.proofs.Slots.{apart, Held}
+use Rattle.laws.proofs.Tests.{cond-eq, cond-ne, lt-or-ge}
+use Rattle.model.specs.Timeline.{Row, add-cell, push, push-writes, next-place, open-row}
+use Rattle.timeline.specs.View.{from, opened}
 
 -- ── Rows one after the other ────────────────────────────────────────────────
 

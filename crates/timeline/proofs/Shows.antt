@@ -1,9 +1,9 @@
 -- What a view shows of a row, of a byte and of a cell.
 use Prim.Native.Nat.{ℕ, _+_, _-_, _*_, _/_, _%_, _≤_, _<_}
 use mathlib.Core.Path.{_≡_, refl, sym, ap, ap₂, _∙_}
-use mathlib.Core.Bool.{Bool, true, false, cond, _&&_}
+use mathlib.Core.Bool.{Bool, true, cond, _&&_}
 use mathlib.Core.Option.{Option, none, some}
-use mathlib.Core.List.{List, [], _∷_}
+use mathlib.Core.List.{List}
 use native.Mathlib.Omega.{arith}
 use lib.Dec.{eqb, ltb}
 use lib.ListN.{length, getD}
@@ -17,7 +17,7 @@ use Rattle.capability.specs.declared.PipelineTimelineState.the-variants as cell
 use Rattle.capability.specs.declared.PipelineStageRole.{PipelineStageRole}
 use Rattle.capability.specs.declared.PipelineStageRole.the-variants as role
 use Rattle.model.specs.Timeline.{Row, cell-at, timeline}
-use Rattle.model.specs.Views.{row-view, cell-state, label-role, cell-view, CellView}
+use Rattle.model.specs.Views.{row-view, cell-state, label-role, cell-view}
 use Rattle.model.specs.Calls.{Answer, refused, shown-row, shown-cell, first-of}
 use Rattle.laws.proofs.Choices.{none-some}
 use Rattle.op.specs.declared.MaybeText.{MaybeText}

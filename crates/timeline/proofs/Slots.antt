@@ -1,13 +1,12 @@
 -- Which ids are held, and in which slots.
 use Prim.Native.Nat.{ℕ, suc, _+_, _-_, _*_, _/_, _%_, _≤_, _<_, min}
-use mathlib.Core.Path.{_≡_, refl, sym, ap, _∙_}
+use mathlib.Core.Path.{_≡_, ap, _∙_}
 use mathlib.Core.Logic.{_⊎_, inl, inr, ⊎-elim}
 use native.Mathlib.Nat.{div-add-mod', mul-le-mul-right, suc-mul, mod-lt}
 use native.Mathlib.Omega.{arith}
 use Rattle.laws.specs.Means.{Means}
 use Rattle.laws.proofs.Tests.{cond-lt, cond-ge, lt-or-ge}
 use Rattle.timeline.specs.declared.Window.{Window}
-use Rattle.timeline.specs.declared.Slot.{Slot}
 use Rattle.timeline.specs.declared.Slot.the-variants.{At, Nothing}
 use Rattle.timeline.specs.View.{WindowOk, the-window, no-rows, opened, SlotOf, slot-held}
 

@@ -1,18 +1,18 @@
 -- What the functions' contracts say together: a row opened, a cell pushed, a row read.
-use Prim.Native.Nat.{ℕ, suc, _+_, _-_, _*_, _%_, _≤_, _<_, min}
+use Prim.Native.Nat.{ℕ, _+_, _-_, _*_, _%_, _≤_, _<_, min}
 use mathlib.Core.Path.{_≡_, refl, sym, ap, ap₂, _∙_}
 use mathlib.Core.Logic.{_⊎_, inl, inr, ⊎-elim}
 use mathlib.Core.Option.{none, some}
-use mathlib.Core.List.{List, [], _∷_, _++_}
+use mathlib.Core.List.{List, []}
 use native.Mathlib.Nat.{mod-lt}
 use native.Mathlib.Omega.{arith}
-use lib.ListN.{length, getD, set, drop, replicate, length-set}
+use lib.ListN.{length, getD, set, replicate, length-set}
 use lib.Seq.{getD-set-same, getD-set-other, set-getD}
 use Rattle.laws.specs.Lists.{nth}
 use Rattle.laws.specs.Means.{Means}
 use Rattle.laws.proofs.Tests.{cond-eq, lt-or-ge}
 use Rattle.laws.proofs.Slices.{getD-any, nth-end, All-getD, All-set}
-use Rattle.model.specs.Timeline.{Row, add-cell, push, push-writes, next-place, open-row, splice, open-writes, write-all, timeline}
+use Rattle.model.specs.Timeline.{Row, add-cell, push-writes, next-place, open-row, splice, open-writes, write-all, timeline}
 use Rattle.timeline.specs.declared.Track.{Track}
 use Rattle.timeline.specs.declared.Tracks.{Tracks}
 use Rattle.timeline.specs.declared.RowText.{RowText}
@@ -39,7 +39,7 @@ use Rattle.timeline.specs.View.{
 }
 use Rattle.timeline.proofs.Memory.{splice-set}
 use Rattle.timeline.proofs.Slots.{apart, Held}
-use Rattle.timeline.proofs.Rows.{from-length, from-nth, from-last, from-drop, from-same, with-row, with-row-other, from-push, from-writes, from-no-writes, from-open}
+use Rattle.timeline.proofs.Rows.{from-length, from-nth, from-same, with-row, with-row-other, from-push, from-writes, from-no-writes, from-open}
 
 -- ── One row, by its slot ────────────────────────────────────────────────────
 

@@ -1,7 +1,7 @@
 -- The view of a cell, from the lent memory.
 use Prim.Native.Nat.{ℕ, _*_}
-use mathlib.Core.Bool.{Bool, _&&_}
-use mathlib.Core.Option.{Option, none, some}
+use mathlib.Core.Bool.{_&&_}
+use mathlib.Core.Option.{none, some}
 use mathlib.Core.List.{List, [], _∷_}
 use lib.Dec.{ltb}
 use lib.ListN.{length}

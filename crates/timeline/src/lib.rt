@@ -8,7 +8,7 @@ use op::Text;
 pub mod cells;
 
 ghost use mathlib.Core.Path.{_≡_};
-ghost use Prim.Native.Nat.{ℕ, _+_, _-_, _*_, _%_, _<_, _≤_, max};
+ghost use Prim.Native.Nat.{_+_, _-_, _*_, _%_, _<_, _≤_, max};
 ghost use lib.ListN.{length, set, replicate};
 ghost use Rattle.laws.specs.Means.{Means};
 ghost use Rattle.laws.specs.Lists.{nth};

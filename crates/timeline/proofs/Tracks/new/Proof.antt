@@ -1,19 +1,12 @@
-use mathlib.Core.Path.{_≡_, refl, ap}
+-- 256 rows just opened.
+use mathlib.Core.Path.{refl, ap}
 use lib.ListN.{replicate}
 use Rattle.laws.proofs.Slices.{All-replicate}
 use Rattle.timeline.specs.View.{TrackOk}
 use borrow.Author.Needs.{needs}
 use Rattle.timeline.proofs.Tracks.new.Statement.{statement}
 use Rattle.timeline.proofs.Tracks.new.Tie as tie
-use Rattle.timeline.proofs.Tracks.new.Reads as reads
-use Rattle.timeline.proofs.Tracks.new.Lts as lts
-use Rattle.timeline.proofs.Track.first.Reads as first-reads
 
--- src/lib.rt:197:13
-first-requires : tie.Need-first-requires
-first-requires c κs = search needs
-
--- src/lib.rt:194:5
 returns : tie.Need-returns
 returns c =
     record {
@@ -22,4 +15,4 @@ returns c =
     }
 
 pub new-spec : {M : Type 1} → statement M
-new-spec = tie.close (tie.spec first-requires returns)
+new-spec = tie.close (tie.spec (λ c κs. search needs) returns)

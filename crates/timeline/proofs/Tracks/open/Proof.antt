@@ -1,4 +1,5 @@
-use mathlib.Core.Path.{_≡_, ap₂, _∙_}
+-- The row stands in its slot, and so do its bytes.
+use mathlib.Core.Path.{ap₂, _∙_}
 use native.Mathlib.Omega.{arith}
 use lib.ListN.{set, length-set}
 use Rattle.laws.proofs.Slices.{All-set}
@@ -7,45 +8,10 @@ use Rattle.timeline.proofs.Steps.{memory-opened}
 use borrow.Author.Needs.{needs}
 use Rattle.timeline.proofs.Tracks.open.Statement.{statement}
 use Rattle.timeline.proofs.Tracks.open.Tie as tie
-use Rattle.timeline.proofs.Tracks.open.Reads as reads
-use Rattle.timeline.proofs.Tracks.open.Lts as lts
-use Rattle.timeline.proofs.Track.first.Reads as first-reads
-use Rattle.timeline.proofs.Window.slot.Reads as slot-reads
-use Rattle.timeline.proofs.cells.fill.Reads as fill-reads
 
--- src/lib.rt:210:13
-slot-requires : tie.Need-slot-requires
-slot-requires c κs = search needs
-
--- src/lib.rt:211:18
 mul-at : tie.Need-mul-at
 mul-at c = omega (arith, c .slot .ensures .below)
 
--- src/lib.rt:212:9
-fill-requires : tie.Need-fill-requires
-fill-requires c κs = search needs
-
--- src/lib.rt:213:9
-slice-write-cells : tie.Need-slice-write-cells
-slice-write-cells c = search needs
-
--- src/lib.rt:215:13
-first-requires : tie.Need-first-requires
-first-requires c κs = search needs
-
--- src/lib.rt:216:9
-mul-t : tie.Need-mul-t
-mul-t c = search needs
-
--- src/lib.rt:216:9
-element-set-from-t : tie.Need-element-set-from-t
-element-set-from-t c = search needs
-
--- src/lib.rt:203:5
-same-length : tie.Need-same-length
-same-length c = search needs
-
--- src/lib.rt:203:5
 returns : tie.Need-returns
 returns c =
     let d = c .before .before .before in
@@ -65,12 +31,12 @@ pub open-spec : {M : Type 1} → statement M
 open-spec =
     tie.close
     (tie.spec
-    slot-requires
+    (λ c κs. search needs)
     mul-at
-    fill-requires
-    slice-write-cells
-    first-requires
-    mul-t
-    element-set-from-t
-    same-length
+    (λ c κs. search needs)
+    (λ c. search needs)
+    (λ c κs. search needs)
+    (λ c. search needs)
+    (λ c. search needs)
+    (λ c. search needs)
     returns)

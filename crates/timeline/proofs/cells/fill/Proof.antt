@@ -1,5 +1,6 @@
-use Prim.Native.Nat.{ℕ, _-_}
-use mathlib.Core.Path.{_≡_, refl}
+-- The first i bytes are set.
+use Prim.Native.Nat.{_-_}
+use mathlib.Core.Path.{refl}
 use native.Mathlib.Omega.{arith}
 use lib.ListN.{replicate, length-replicate}
 use Rattle.laws.proofs.Slices.{replicate-next}
@@ -8,8 +9,6 @@ use Rattle.timeline.proofs.Memory.{copied-splice}
 use borrow.Author.Needs.{needs}
 use Rattle.timeline.proofs.cells.fill.Statement.{statement}
 use Rattle.timeline.proofs.cells.fill.Tie as tie
-use Rattle.timeline.proofs.cells.fill.Reads as reads
-use Rattle.timeline.proofs.cells.fill.Lts as lts
 
 abbrev Inv-loop : tie.InvT-loop
 Inv-loop cells₀ at n byte i₀ cells i = Copied (replicate n byte) cells₀ cells n at i
@@ -20,17 +19,8 @@ abbrev μ-loop : tie.MeasureT-loop
 loop-holds : tie.Need-loop-holds Inv-loop μ-loop
 loop-holds c = copied-first (length-replicate _ _) (c .pre)
 
-add-cells : tie.Need-add-cells Inv-loop μ-loop
-add-cells c = search needs
-
 slice-write-cells : tie.Need-slice-write-cells Inv-loop μ-loop
 slice-write-cells c = omega (arith, copied-size (c .before .loop .inv))
-
-add-i : tie.Need-add-i Inv-loop μ-loop
-add-i c = search needs
-
-loop-less : tie.Need-loop-less Inv-loop μ-loop
-loop-less c = search needs
 
 loop-again : tie.Need-loop-again Inv-loop μ-loop
 loop-again c = copied-next (c .before .loop .inv) (replicate-next _ (c .loop-test .taken)) refl refl
@@ -48,10 +38,10 @@ fill-spec =
     Inv-loop
     μ-loop
     loop-holds
-    add-cells
+    (λ c. search needs)
     slice-write-cells
-    add-i
-    loop-less
+    (λ c. search needs)
+    (λ c. search needs)
     loop-again
     same-length
     returns)

@@ -1,24 +1,18 @@
+-- By the upper bits.
 use native.Mathlib.Omega.{arith}
 use Rattle.timeline.proofs.Shows.{state-key, state-rest}
-use borrow.Author.Needs.{needs}
 use Rattle.timeline.proofs.cells.state_of.Statement.{statement}
 use Rattle.timeline.proofs.cells.state_of.Tie as tie
-use Rattle.timeline.proofs.cells.state_of.Reads as reads
-use Rattle.timeline.proofs.cells.state_of.Lts as lts
 
--- src/cells.rt:49:1
 returns : tie.Need-returns
 returns c = state-key _ (c .match .keys1)
 
--- src/cells.rt:49:1
 returns-2 : tie.Need-returns-2
 returns-2 c = state-key _ (c .match .keys2)
 
--- src/cells.rt:49:1
 returns-3 : tie.Need-returns-3
 returns-3 c = state-key _ (c .match .keys3)
 
--- src/cells.rt:49:1
 returns-4 : tie.Need-returns-4
 returns-4 c = state-rest _ (omega arith)
 
