@@ -19,10 +19,13 @@ pub question : {m : Text} (mine : Text) → m ≡ word-or (63 ∷ []) mine → m
 unfolding bytes utf8
 question mine e = e ∙ first-words .lent mine
 
--- m and o are the first words, f the form.
-pub wrote-wait : {form f : WaitForm} (mine r other : Text) (t : ℕ) {m o : Text} {lent out : List ℕ} {w : Written} → form ≡ f
-    → m ≡ first-word mine → o ≡ first-word other → Wrote (some (render (detail-of f m r o t))) lent out w
+-- f is the form that was told.
+pub wrote-form : {form f : WaitForm} (m r o : Text) (t : ℕ) {lent out : List ℕ} {w : Written} → form ≡ f
+    → Wrote (some (render (detail-of f m r o t))) lent out w → Wrote (some (render (detail-of form m r o t))) lent out w
+wrote-form m r o t e = wrote-as (sym (ap (λ g. render (detail-of g m r o t)) e))
+
+-- m and o are the words that were found.
+pub wrote-words : (form : WaitForm) (mine r other : Text) (t : ℕ) {m o : Text} {lent out : List ℕ} {w : Written} → m ≡ first-word mine
+    → o ≡ first-word other → Wrote (some (render (detail-of form m r o t))) lent out w
     → Wrote (some (render (detail-of form (first-word mine) r (first-word other) t))) lent out w
-wrote-wait {f = f} mine r other t e p q =
-    wrote-as
-    (ap₂ (λ x y. render (detail-of f x r y t)) p q ∙ sym (ap (λ g. render (detail-of g (first-word mine) r (first-word other) t)) e))
+wrote-words form mine r other t p q = wrote-as (ap₂ (λ x y. render (detail-of form x r y t)) p q)

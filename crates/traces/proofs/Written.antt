@@ -1,10 +1,10 @@
 -- Texts laid over a lent buffer.
-use Prim.Native.Nat.{ℕ, zero, suc, _+_, _-_, _^_, _≤_, _<_}
+use Prim.Native.Nat.{ℕ, suc, _+_, _-_, _^_, _≤_, _<_}
 use mathlib.Core.Path.{_≡_, refl, sym, ap, ap₂, _∙_}
-use mathlib.Core.Bool.{Bool, true, false, cond}
+use mathlib.Core.Bool.{Bool, true, cond}
 use mathlib.Core.Logic.{⊎-elim}
-use mathlib.Core.Option.{Option, none, some}
-use mathlib.Core.List.{List, [], _∷_, _++_, append-assoc, append-nil}
+use mathlib.Core.Option.{none, some}
+use mathlib.Core.List.{List, [], _++_, append-assoc, append-nil}
 use native.Mathlib.Nat.{zero-add, suc-add, pow-le-pow-left}
 use native.Mathlib.Omega.{arith}
 use lib.Dec.{ltb}
@@ -14,7 +14,7 @@ use borrow.Author.Tests.{ltb-true, lt-ltb, le-ltb}
 use Rattle.laws.specs.Optional.{when-some}
 use Rattle.laws.specs.Texts.{Text, digits-before, hexadecimal}
 use Rattle.laws.proofs.Digits.{digits-by, digits-end, digits-more}
-use Rattle.laws.proofs.Tests.{cond-yes, cond-no, cond-lt, cond-ge, lt-or-ge}
+use Rattle.laws.proofs.Tests.{cond-lt, cond-ge, lt-or-ge}
 use Rattle.model.specs.Timeline.{overlay, splice}
 use Rattle.model.specs.Requests.{short-for, buffer-with}
 use Rattle.model.specs.Calls.{Answer, refused, shown-text, first-of}

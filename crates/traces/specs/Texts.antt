@@ -7,7 +7,7 @@ use mathlib.Core.List.{List, [], _∷_, _++_}
 use lib.Dec.{ltb}
 use lib.ListN.{length, take, drop}
 use Rattle.laws.specs.Optional.{when-some}
-use Rattle.laws.specs.Texts.{Text, digits-before}
+use Rattle.laws.specs.Texts.{Text}
 use Rattle.model.specs.Timeline.{splice}
 use Rattle.model.specs.Requests.{short-for, buffer-with}
 use Rattle.model.specs.Calls.{Answer, refused, shown-text, first-of}

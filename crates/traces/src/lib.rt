@@ -71,8 +71,40 @@ fn write_waits_for(mine: &[u8], register: &[u8], producer: &[u8], out: &mut [u8]
     )
 }
 
-// The text of a wait: `mine` and `other` are the disassembly of the operation that waits and of the one waited for, `register` the register's
-// name, or the kind's for AllBusy. A form reads only the words that its text has.
+const BEHIND_BRANCH: [u8; 41] = *b" cannot issue behind an unresolved branch";
+
+const BEHIND_SYSTEM: [u8; 42] = *b" waits \xE2\x80\x94 a system instruction serializes";
+
+const STILL_WRITES: [u8; 49] = *b" must wait \xE2\x80\x94 an older instruction still writes ";
+
+// The text of a form, of its words: those of the operation that waits and of the one waited for, the register's name or the kind's.
+fn write_words(
+    form: WaitForm,
+    mine: &[u8],
+    register: &[u8],
+    other: &[u8],
+    target: u64,
+    out: &mut [u8],
+) -> Written
+    ensures { λ r. ⌜ Wrote (some (render (detail-of form (now (mine .entry)) (now (register .entry)) (now (other .entry)) target))) (now (out .entry)) (now (out .exit)) r ⌝ }
+{
+    let none = &mine[..0];
+    match form {
+        WaitForm::Overwrites => write_overwrites(mine, register, other, out),
+        WaitForm::MemoryOrder => write_memory_order(mine, other, out),
+        WaitForm::Drains => write_three(mine, b" waits for the machine to drain", none, out),
+        WaitForm::WaitsFor => write_waits_for(mine, register, other, out),
+        WaitForm::WaitsForOlder => write_waits_for(mine, register, b"an older instruction", out),
+        WaitForm::BehindBranch => write_three(mine, &BEHIND_BRANCH, none, out),
+        WaitForm::BehindSystem => write_three(mine, &BEHIND_SYSTEM, none, out),
+        WaitForm::StillWrites => write_three(mine, &STILL_WRITES, register, out),
+        WaitForm::AllBusy => write_three(b"all ", register, b" units are busy", out),
+        WaitForm::RedirectTo => write_hex(b"redirect to 0x", target, out),
+    }
+}
+
+// The text of a wait. `mine` and `other` are the disassembly of the operation that waits and of the one waited for, `register` the register's
+// name, or the kind's for AllBusy; a form reads only what its text has.
 pub fn write_wait(
     form: WaitForm,
     mine: &[u8],
@@ -83,34 +115,7 @@ pub fn write_wait(
 ) -> Written
     ensures { λ r. ⌜ Wrote (some (render (detail-of form (first-word (now (mine .entry))) (now (register .entry)) (first-word (now (other .entry))) target))) (now (out .entry)) (now (out .exit)) r ⌝ }
 {
-    let none = &mine[..0];
     let m = op::word::mnemonic(mine, b"?");
     let o = op::word::mnemonic(other, b"?");
-    match form {
-        WaitForm::Overwrites => write_overwrites(m, register, o, out),
-        WaitForm::MemoryOrder => write_memory_order(m, o, out),
-        WaitForm::Drains => write_three(m, b" waits for the machine to drain", none, out),
-        WaitForm::WaitsFor => write_waits_for(m, register, o, out),
-        WaitForm::WaitsForOlder => write_waits_for(m, register, b"an older instruction", out),
-        WaitForm::BehindBranch => write_three(
-            m,
-            b" cannot issue behind an unresolved branch",
-            none,
-            out,
-        ),
-        WaitForm::BehindSystem => write_three(
-            m,
-            b" waits \xE2\x80\x94 a system instruction serializes",
-            none,
-            out,
-        ),
-        WaitForm::StillWrites => write_three(
-            m,
-            b" must wait \xE2\x80\x94 an older instruction still writes ",
-            register,
-            out,
-        ),
-        WaitForm::AllBusy => write_three(b"all ", register, b" units are busy", out),
-        WaitForm::RedirectTo => write_hex(b"redirect to 0x", target, out),
-    }
+    write_words(form, m, register, o, target, out)
 }

@@ -4,7 +4,7 @@ ghost use mathlib.Core.Option.{some};
 ghost use mathlib.Core.List.{[], _++_};
 ghost use Prim.Native.Nat.{_+_, _<_, _≤_};
 ghost use lib.Dec.{ltb};
-ghost use lib.ListN.{length, drop};
+ghost use lib.ListN.{length};
 ghost use Rattle.laws.specs.Texts.{digit, digits-before, decimal, hexadecimal};
 ghost use Rattle.traces.specs.Texts.{Laid, Wrote, IsDigits, six};
 

@@ -1,3 +1,4 @@
+-- What is left after the parts so far is too short for the next, or for the last.
 use Prim.Native.Nat.{ℕ, _+_, _-_, _≤_, _<_}
 use mathlib.Core.Path.{_≡_, sym}
 use mathlib.Core.Bool.{true}
@@ -5,11 +6,8 @@ use native.Mathlib.Omega.{arith}
 use lib.Dec.{ltb}
 use borrow.Author.Tests.{lt-ltb}
 use Rattle.traces.proofs.Written.{same-test}
-use borrow.Author.Needs.{needs}
 use Rattle.traces.proofs.texts.is_short.Statement.{statement}
 use Rattle.traces.proofs.texts.is_short.Tie as tie
-use Rattle.traces.proofs.texts.is_short.Reads as reads
-use Rattle.traces.proofs.texts.is_short.Lts as lts
 
 abbrev total : tie.Start → ℕ
 total s = s .args .a + (s .args .b + (s .args .c + (s .args .d + (s .args .e + s .args .f))))
@@ -17,27 +15,21 @@ total s = s .args .a + (s .args .b + (s .args .c + (s .args .d + (s .args .e + s
 yes : (s : tie.Start) → s .args .room < total s → true ≡ ltb (s .args .room) (total s)
 yes s h = sym (lt-ltb (s .args .room) (total s) h)
 
--- src/texts.rt:56:9
 returns : tie.Need-returns
 returns c = yes (c .before) (omega arith)
 
--- src/texts.rt:60:9
 returns-2 : tie.Need-returns-2
 returns-2 c = yes (c .before .before) (omega arith)
 
--- src/texts.rt:64:9
 returns-3 : tie.Need-returns-3
 returns-3 c = yes (c .before .before .before) (omega arith)
 
--- src/texts.rt:68:9
 returns-4 : tie.Need-returns-4
 returns-4 c = yes (c .before .before .before .before) (omega arith)
 
--- src/texts.rt:72:9
 returns-5 : tie.Need-returns-5
 returns-5 c = yes (c .before .before .before .before .before) (omega arith)
 
--- src/texts.rt:52:1
 returns-6 : tie.Need-returns-6
 returns-6 c =
     let s = c .before .before .before .before .before in

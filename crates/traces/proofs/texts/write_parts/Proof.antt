@@ -1,5 +1,6 @@
+-- Nothing is written where the six are too long; else both halves fit.
 use Prim.Native.Nat.{_≤_}
-use mathlib.Core.Path.{_≡_, sym, _∙_}
+use mathlib.Core.Path.{sym, _∙_}
 use native.Mathlib.Omega.{arith}
 use lib.ListN.{length}
 use borrow.Author.Tests.{ltb-false}
@@ -17,9 +18,6 @@ fits : (c : tie.Else1)
     total (a .a .now) (a .b .now) (a .c .now) (a .d .now) (a .e .now) (a .f .now) ≤ length (a .out .now)
 fits c = ltb-false _ _ (sym (c .before .is-short .ensures) ∙ c .if1 .left)
 
-is-short-requires : tie.Need-is-short-requires
-is-short-requires c κs = search needs
-
 returns : tie.Need-returns
 returns c =
     let a = start (c .before) .args in
@@ -36,9 +34,6 @@ put-three-requires-2 c κs =
     let a = start (e .before) .args in
     six-room (a .a .now) (a .b .now) (a .c .now) (a .d .now) (a .e .now) (a .f .now) (a .out .now) (fits e) (p .put-three .ensures)
 
-same-length : tie.Need-same-length
-same-length c = search needs
-
 returns-2 : tie.Need-returns-2
 returns-2 c =
     let q = c .before .before in
@@ -52,9 +47,9 @@ pub write-parts-spec : {M : Type 1} → statement M
 write-parts-spec =
     tie.close
     (tie.spec
-    is-short-requires
+    (λ c κs. search needs)
     returns
     put-three-requires
     put-three-requires-2
-    same-length
+    (λ c. search needs)
     returns-2)
