@@ -21,7 +21,7 @@ use Rattle.ending.specs.Ending.{Bound-met, Ending, Outcome, begun, begun
 use Rattle.ending.proofs.Totals.{total}
 use Rattle.ending.proofs.Work.{op-work, unit-work, work}
 use Rattle.ending.proofs.Counts.{in-flight-count, one-busy}
-use Rattle.ending.proofs.Played.{write-all-length}
+use Rattle.rows.proofs.Bytes.{write-all-length}
 use Rattle.ending.proofs.Turn.{Between, Turned, left, lines-most, on, over, turned}
 
 -- ── Turns ───────────────────────────────────────────────────────────────────

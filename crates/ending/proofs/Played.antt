@@ -1,39 +1,21 @@
 -- The calls that `forecast` makes in a cycle are taken, and the lent cells keep their length.
-use Prim.Native.Nat.{ℕ, zero, suc}
+use Prim.Native.Nat.{ℕ}
 use mathlib.Core.Path.{_≡_, refl, _∙_, ap, ap₂}
 use mathlib.Core.Bool.{Bool, true, false, cond, not, _&&_, _||_}
 use mathlib.Core.Option.{Option, none, some}
-use mathlib.Core.List.{List, [], _∷_}
+use mathlib.Core.List.{List}
 use lib.ListN.{length}
 use Rattle.laws.specs.Optional.{is-none, is-some, omap, when-some}
 use Rattle.model.specs.State.{Front, State}
-use Rattle.model.specs.Timeline.{Write, overlay, splice, timeline, write-all}
+use Rattle.model.specs.Timeline.{timeline, write-all}
 use Rattle.model.specs.Units.{unit-at}
 use Rattle.model.specs.Write.{start-cycle, writing}
 use Rattle.model.specs.Scoreboard.{advance as do-advance, advance-writes}
 use Rattle.model.specs.Calls.{Call, advance, calls, checks, refusal, retire, run, sets, short-memory, start}
 use Rattle.model.specs.Forecast.{Lent, cycle, forecasts, lent-of, play, retire-offer}
 use Rattle.refusals.proofs.Demand1.{all-fail}
+use Rattle.rows.proofs.Bytes.{write-all-length}
 use Rattle.ending.proofs.Cycle.{cycled, settled, settled-same}
-
--- ── The lent cells ──────────────────────────────────────────────────────────
-
-overlay-length : (bs m : List ℕ) → length (overlay bs m) ≡ length m
-unfolding timeline
-overlay-length [] m = refl
-overlay-length (b ∷ bs) [] = refl
-overlay-length (b ∷ bs) (x ∷ m) = ap suc (overlay-length bs m)
-
-splice-length : (p : ℕ) (bs m : List ℕ) → length (splice p bs m) ≡ length m
-unfolding timeline
-splice-length zero bs m = overlay-length bs m
-splice-length (suc p) bs [] = refl
-splice-length (suc p) bs (x ∷ m) = ap suc (splice-length p bs m)
-
-pub write-all-length : (ws : List Write) (m : List ℕ) → length (write-all ws m) ≡ length m
-unfolding timeline
-write-all-length [] m = refl
-write-all-length (w ∷ ws) m = write-all-length ws (splice (w .0) (w .1) m) ∙ splice-length (w .0) (w .1) m
 
 -- ── Calls ───────────────────────────────────────────────────────────────────
 

@@ -33,7 +33,8 @@ use Rattle.ending.proofs.Totals.{total, total-append}
 use Rattle.ending.proofs.Work.{op-work, work}
 use Rattle.ending.proofs.Counts.{in-flight-count, one-busy}
 use Rattle.ending.proofs.Cycled.{Cycled, cycled-facts}
-use Rattle.ending.proofs.Played.{cycle-played, play-taken, write-all-length}
+use Rattle.rows.proofs.Bytes.{write-all-length}
+use Rattle.ending.proofs.Played.{cycle-played, play-taken}
 
 -- ── Lines ───────────────────────────────────────────────────────────────────
 

@@ -19,3 +19,4 @@ pub mod Advance
 pub mod Front
 pub mod Kept
 pub mod Invariant
+pub mod Ready
