@@ -133,11 +133,6 @@ pub enum Call {
 }
 
 impl Call {
-    /// Is cell memory lent to the call, to be set?
-    pub fn lends(&self) -> bool {
-        matches!(self, Call::Advance(..) | Call::Fetch(..) | Call::Reset(..))
-    }
-
     pub fn name(&self) -> &'static str {
         match self {
             Call::Start => "start",
@@ -159,15 +154,16 @@ impl Call {
     }
 }
 
-/// A step of a list.
+/// A step of a list. Each has one number.
 #[derive(Clone, Debug)]
 pub enum Step {
-    /// A call, and then all that the engine shows is compared.
+    /// A call: its answer, and all that the engine shows after it.
     Shown(Call),
-    /// A call of which the answer alone is compared.
+    /// A call: its answer alone.
     Quiet(Call),
-    /// So many times start and advance without a redirect, of which the answers alone are compared.
+    /// So many times start and advance, lent so much: each answer, and all that the engine shows after
+    /// the last.
     Idle(u64, u64),
-    /// What no call changes, and the bytes of the cell memory past the last row.
+    /// All that the engine shows, what no call changes, and every byte of the cell memory.
     Rest,
 }

@@ -9,7 +9,8 @@ use std::{fs, io};
 use crate::call::Step;
 use crate::generate::generate;
 use crate::play::Case;
-use crate::write::{call_term, file_of, joined};
+use crate::terms::{call_term, joined};
+use crate::write::file_of;
 
 /// Writes claims into the crate at `folder`: on which number of the list is the first that differs, or,
 /// given that, on which place of the list of numbers behind it.
@@ -32,13 +33,11 @@ pub fn find(seed: u64, folder: &str, number: Option<usize>) -> ExitCode {
 pub fn at(seed: u64, number: usize, place: usize) -> ExitCode {
     let case = generate(seed);
     let list = &case.lists[number];
-    let steps = segment(&case, number);
-    println!("seed {seed}, step {} of {}:", steps.end, case.steps.len());
-    for step in &case.steps[steps] {
-        match step {
-            Step::Shown(call) | Step::Quiet(call) => println!("    {}", call_term(call)),
-            other => println!("    {other:?}"),
-        }
+    println!("seed {seed}, step {number} of {}:", case.steps.len());
+    match number.checked_sub(1).map(|at| &case.steps[at]) {
+        None => println!("    making"),
+        Some(Step::Shown(call) | Step::Quiet(call)) => println!("    {}", call_term(call)),
+        Some(other) => println!("    {other:?}"),
     }
     let parts = list.parts.iter().rev();
     let part = parts.clone().find(|(start, _)| *start <= place);
@@ -56,19 +55,6 @@ pub fn at(seed: u64, number: usize, place: usize) -> ExitCode {
     ExitCode::SUCCESS
 }
 
-/// The steps that a number is made of.
-fn segment(case: &Case, number: usize) -> std::ops::Range<usize> {
-    let ends: Vec<usize> = (0..case.steps.len())
-        .filter(|at| matches!(case.steps[*at], Step::Shown(_) | Step::Rest))
-        .map(|at| at + 1)
-        .collect();
-    if number == 0 {
-        return 0..0;
-    }
-    let start = if number == 1 { 0 } else { ends[number - 2] };
-    start..ends.get(number - 1).copied().unwrap_or(case.steps.len())
-}
-
 fn claims(case: &Case, folder: &Path, number: Option<usize>) -> io::Result<()> {
     let lists = folder.join("specs/Sample");
     if lists.exists() {
@@ -82,55 +68,50 @@ fn claims(case: &Case, folder: &Path, number: Option<usize>) -> io::Result<()> {
             0..0,
         ),
         Some(0) => ("place (making case-1) expected", 0, 0..0),
-        Some(number) => {
-            let own = segment(case, number);
-            ("place (behind case-1 case-2) expected", own.start, own)
-        }
+        Some(n) => ("place (behind case-1 case-2) expected", n - 1, n - 1..n),
     };
-    fs::write(
-        lists.join("List1.antt"),
-        file_of(1, case, &case.steps[..before]),
-    )?;
+    let first = file_of(1, case, &case.steps[..before]);
+    fs::write(lists.join("List1.antt"), first)?;
     fs::write(lists.join("List2.antt"), file_of(2, case, &case.steps[own]))?;
     let sample = "pub mod List1\npub mod List2\n";
     fs::write(folder.join("specs/Sample.antt"), sample)?;
+    let expected = number.map_or(&[][..], |number| &case.lists[number].list);
+    fs::write(folder.join("proofs/Sampled.antt"), bits(place, expected))
+}
+
+/// Claims that each bit of the place is 1.
+fn bits(place: &str, expected: &[u64]) -> String {
     let mut file = PLACE.to_string();
-    if let Some(number) = number {
-        let expected: Vec<String> = case.lists[number].list.iter().map(u64::to_string).collect();
-        let _ = write!(
-            file,
-            "\nexpected : List ℕ\nexpected =\n{}\n",
-            joined(&expected)
-        );
-    } else {
-        file.push_str("\nexpected : List ℕ\nexpected = []\n");
-    }
+    let expected: Vec<String> = expected.iter().map(u64::to_string).collect();
+    let expected = joined(&expected);
+    let _ = write!(file, "\nexpected : List ℕ\nexpected =\n{expected}\n");
     for bit in 0..14 {
         let _ = write!(
             file,
             "
 bit-{bit} : eqb ({place} / {} % 2) 1 ≡ true
-unfolding everything digest lists-of-calls place engine memory given behind making expected
+unfolding everything digest lists-of-calls place cycles calls-of answers played step behind making expected
 bit-{bit} = refl
 ",
             1 << bit
         );
     }
-    fs::write(folder.join("proofs/Sampled.antt"), file)
+    file
 }
 
 const PLACE: &str = "-- On the bits of the place of the first difference.
-use Prim.Native.Nat.{ℕ, zero, suc, _*_, _/_, _%_}
+use Prim.Native.Nat.{ℕ, zero, suc, _/_, _%_}
 use mathlib.Core.Path.{_≡_, refl}
 use mathlib.Core.Bool.{true, cond}
-use mathlib.Core.List.{List, [], _∷_}
+use mathlib.Core.Option.{none}
+use mathlib.Core.List.{List, [], _∷_, _++_}
 use lib.Dec.{eqb}
-use lib.ListN.{drop, replicate}
+use lib.ListN.{replicate}
 use Rattle.model.specs.State.{State, new}
-use Rattle.model.specs.Calls.{after, memory-after, make-memory}
+use Rattle.model.specs.Calls.{Call, start, advance, after, memory-after, make-memory, runs, memories}
 use Rattle.model.specs.Everything.{everything}
-use Rattle.samples.specs.Digest.{digest, text-numbers, call-numbers, lends, everything-shown, fixed-shown}
-use Rattle.samples.specs.Lists.{Step, shown, quiet, rest, Case, numbers-of, lists-of-calls}
+use Rattle.samples.specs.Digest.{digest, call-numbers, everything-shown}
+use Rattle.samples.specs.Lists.{Step, shown, quiet, idle, rest, Case, all-shown, numbers-of, lists-of-calls}
 use Rattle.samples.specs.Sample.List1.{case-1}
 use Rattle.samples.specs.Sample.List2.{case-2}
 
@@ -139,36 +120,43 @@ place [] ys = 0
 place (x ∷ xs) [] = 0
 place (x ∷ xs) (y ∷ ys) = cond (eqb x y) (suc (place xs ys)) 0
 
-engine : State → List Step → State
-engine s [] = s
-engine s (shown c ∷ cs) = engine (after s c) cs
-engine s (quiet c ∷ cs) = engine (after s c) cs
-engine s (rest ∷ cs) = engine s cs
+cycles : ℕ → ℕ → List Call
+cycles zero lent = []
+cycles (suc n) lent = start ∷ advance none lent ∷ cycles n lent
 
-memory : State → List ℕ → List Step → List ℕ
-memory s m [] = m
-memory s m (shown c ∷ cs) = memory (after s c) (memory-after s c m) cs
-memory s m (quiet c ∷ cs) = memory (after s c) (memory-after s c m) cs
-memory s m (rest ∷ cs) = memory s m cs
+calls-of : List Step → List Call
+calls-of [] = []
+calls-of (shown c ∷ cs) = c ∷ calls-of cs
+calls-of (quiet c ∷ cs) = c ∷ calls-of cs
+calls-of (idle n lent ∷ cs) = cycles n lent ++ calls-of cs
+calls-of (rest ∷ cs) = calls-of cs
 
-given : State → List ℕ → List Step → List ℕ
-given s m [] = []
-given s m (shown c ∷ cs) = call-numbers s m c (everything-shown (lends c) (after s c) (memory-after s c m) [])
-given s m (quiet c ∷ cs) = call-numbers s m c (given (after s c) (memory-after s c m) cs)
-given s m (rest ∷ cs) = fixed-shown s (text-numbers (drop (s .machine .history * 200) m) [])
+answers : State → List ℕ → List Call → List ℕ → List ℕ
+answers s m [] l = l
+answers s m (c ∷ cs) l = call-numbers s m c (answers (after s c) (memory-after s c m) cs l)
+
+played : State → List ℕ → List Call → List ℕ
+played s m cs = answers s m cs (everything-shown (runs s cs) (memories s m cs) [])
+
+step : State → List ℕ → List Step → List ℕ
+step s m [] = []
+step s m (shown c ∷ cs) = played s m (c ∷ [])
+step s m (quiet c ∷ cs) = call-numbers s m c []
+step s m (idle n lent ∷ cs) = played s m (cycles n lent)
+step s m (rest ∷ cs) = all-shown s m []
 
 made : Case → State
 made c = new (c .shape) (c .entry)
 
-lent : Case → List ℕ
-lent c = make-memory (c .shape) (replicate (c .lent) 7)
+lent-memory : Case → List ℕ
+lent-memory c = make-memory (c .shape) (replicate (c .lent) 7)
 
 -- The list behind a number: the steps before it, and its own.
 behind : Case → Case → List ℕ
-unfolding made lent
-behind b c = given (engine (made b) (b .steps)) (memory (made b) (lent b) (b .steps)) (c .steps)
+unfolding made lent-memory
+behind b c = step (runs (made b) (calls-of (b .steps))) (memories (made b) (lent-memory b) (calls-of (b .steps))) (c .steps)
 
 making : Case → List ℕ
-unfolding made lent
-making c = 1 ∷ fixed-shown (made c) (everything-shown true (made c) (lent c) (text-numbers (lent c) []))
+unfolding made lent-memory
+making c = 1 ∷ all-shown (made c) (lent-memory c) []
 ";

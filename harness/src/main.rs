@@ -1,14 +1,26 @@
 //! Lists of calls played on the Rust engine, and what it answered and showed, for the model to be
 //! held against. docs/SAMPLES.md says what is compared and how to make more.
 
+mod ask;
 mod call;
 mod coverage;
 mod driver;
+mod everything;
 mod find;
 mod generate;
+mod machines;
+mod names;
 mod numbers;
+mod operations;
 mod play;
+mod refuse;
 mod rng;
+mod shape;
+mod terms;
+mod texts;
+mod views;
+mod waits;
+mod wanted;
 mod write;
 
 include!(concat!(env!("OUT_DIR"), "/raven.rs"));

@@ -2,16 +2,18 @@
 
 use crate::call::{Call, Machine, Step};
 use crate::coverage::Coverage;
-use crate::driver::{Answered, Driver, make_refusals};
+use crate::driver::{Answered, Driver};
 use crate::numbers::{Numbers, hash};
+use crate::refuse::make_refusals;
 
 /// What stands in the lent cell memory before making.
 pub const FILLER: u64 = 7;
 
 pub struct Case {
+    pub seed: u64,
     pub machine: Machine,
     pub steps: Vec<Step>,
-    /// What the Rust answered and showed: after making, after each call that is shown, and the rest.
+    /// What the Rust answered and showed: at making, and at each step.
     pub lists: Vec<Numbers>,
     pub coverage: Coverage,
 }
@@ -24,37 +26,31 @@ impl Case {
 
     /// Roughly the milliseconds that it takes to compute the model over the list.
     pub fn cost(&self) -> u64 {
-        let units: u64 = self
-            .machine
-            .kinds
-            .iter()
-            .map(|kind| kind.capacity.clamp(1, 64))
-            .sum();
-        let shown = 6 + units.max(1) + 3 * self.machine.history.min(256);
-        let quiet = 1 + units / 10;
-        let step = |step: &Step| match step {
-            Step::Shown(_) => shown,
-            Step::Quiet(_) => quiet,
-            Step::Idle(cycles, _) => 2 * cycles * quiet,
-            Step::Rest => 20,
-        };
-        let names = self.steps.len() as u64 * self.coverage.names() / 12;
-        50 + self.machine.lent / 50 + names + self.steps.iter().map(step).sum::<u64>()
+        let kinds = self.machine.kinds.iter();
+        let units: u64 = kinds.map(|kind| kind.capacity.clamp(1, 64)).sum();
+        let sizes = self.lists.iter().map(|list| list.list.len() as u64);
+        let steps = self.steps.iter().map(|step| match step {
+            Step::Idle(cycles, _) => 2 * cycles,
+            Step::Shown(_) | Step::Quiet(_) => 1,
+            Step::Rest => 0,
+        });
+        let calls: u64 = steps.sum();
+        let each = 1 + units / 6 + self.machine.lent / 170 + self.coverage.names() / 6;
+        50 + self.machine.lent / 50 + calls * each + sizes.sum::<u64>() / 45
     }
 }
 
 /// A machine that was made, and what was played on it so far.
 pub struct Player {
+    seed: u64,
     pub driver: Driver,
     steps: Vec<Step>,
-    /// What was answered since the last list ended.
-    pending: Numbers,
     /// The lists behind the expected numbers.
     lists: Vec<Numbers>,
 }
 
 /// Making: the number that refuses it, or the engine, and the lent cell memory after it.
-pub fn make(machine: &Machine) -> Result<Player, Case> {
+pub fn make(seed: u64, machine: &Machine) -> Result<Player, Case> {
     let lent = machine.lent as usize;
     let mut numbers = Numbers::default();
     let mut coverage = Coverage::default();
@@ -65,6 +61,7 @@ pub fn make(machine: &Machine) -> Result<Player, Case> {
         numbers.put(machine.lent);
         numbers.all(&vec![FILLER; lent]);
         return Err(Case {
+            seed,
             machine: machine.clone(),
             steps: Vec::new(),
             lists: vec![numbers],
@@ -74,9 +71,9 @@ pub fn make(machine: &Machine) -> Result<Player, Case> {
     let mut driver = Driver::new(machine);
     driver.coverage = coverage;
     let mut player = Player {
+        seed,
         driver,
         steps: Vec::new(),
-        pending: Numbers::default(),
         lists: Vec::new(),
     };
     player.made();
@@ -85,78 +82,88 @@ pub fn make(machine: &Machine) -> Result<Player, Case> {
 
 impl Player {
     fn made(&mut self) {
-        let lent = self.driver.machine.lent;
-        let cells = self.driver.machine.memory();
-        self.pending.put(1);
-        self.driver.fixed(&mut self.pending);
-        self.driver.everything(true, &mut self.pending);
-        self.pending.part("lent memory");
-        self.pending.put(lent);
-        self.pending.all(&vec![255; cells as usize]);
-        self.pending.all(&vec![FILLER; (lent - cells) as usize]);
-        self.list_ends();
+        let mut numbers = Numbers::default();
+        numbers.put(1);
+        self.all_shown(&mut numbers);
+        self.lists.push(numbers);
     }
 
-    fn list_ends(&mut self) {
-        self.lists.push(std::mem::take(&mut self.pending));
+    fn all_shown(&self, numbers: &mut Numbers) {
+        self.driver.everything(numbers);
+        self.driver.fixed(numbers);
+        self.driver.memory(numbers);
     }
 
-    /// A call, and its answer alone.
-    fn call(&mut self, call: &Call) -> Answered {
+    fn everything(&mut self, numbers: &mut Numbers) {
+        self.driver.everything(numbers);
+        let mut coverage = std::mem::take(&mut self.driver.coverage);
+        coverage.rows_shown(&self.driver);
+        self.driver.coverage = coverage;
+    }
+
+    /// A call, its answer and its looks.
+    fn call(&mut self, call: &Call, numbers: &mut Numbers) -> Answered {
         let answered = self.driver.call(call);
-        self.pending.part(format!("answer to {}", call.name()));
-        self.pending.all(&answered.numbers);
-        self.pending.part("looks");
-        self.pending.put(answered.looks.len() as u64);
+        numbers.part(format!("answer to {}", call.name()));
+        numbers.all(&answered.numbers);
+        numbers.part("looks");
+        numbers.put(answered.looks.len() as u64);
         for (number, registers) in &answered.looks {
-            self.pending.put(*number);
-            self.pending.put(registers.len() as u64);
-            self.pending.all(registers);
+            numbers.put(*number);
+            numbers.put(registers.len() as u64);
+            numbers.all(registers);
         }
         answered
+    }
+
+    fn step(&mut self, step: Step, numbers: Numbers) {
+        self.lists.push(numbers);
+        self.steps.push(step);
     }
 
     /// A call, and then all that the engine shows.
     pub fn shown(&mut self, call: Call) -> Answered {
-        let answered = self.call(&call);
-        self.driver.everything(call.lends(), &mut self.pending);
-        self.list_ends();
-        self.steps.push(Step::Shown(call));
+        let mut numbers = Numbers::default();
+        let answered = self.call(&call, &mut numbers);
+        self.everything(&mut numbers);
+        self.driver.coverage.shown += 1;
+        self.step(Step::Shown(call), numbers);
         answered
     }
 
+    /// A call, and its answer alone.
     pub fn quiet(&mut self, call: Call) -> Answered {
-        let answered = self.call(&call);
-        self.steps.push(Step::Quiet(call));
+        let mut numbers = Numbers::default();
+        let answered = self.call(&call, &mut numbers);
+        self.step(Step::Quiet(call), numbers);
         answered
     }
 
-    /// At most so many cycles of start and advance, as long as nothing is offered.
+    /// At most so many times start and advance, until the advance is refused because of an offer; then
+    /// all that the engine shows.
     pub fn idle(&mut self, most: u64) {
         let lent = self.driver.machine.memory();
+        let mut numbers = Numbers::default();
         let mut cycles = 0;
         while cycles < most && !self.driver.in_cycle {
-            self.call(&Call::Start);
-            self.call(&Call::Advance(None, lent));
+            self.call(&Call::Start, &mut numbers);
+            self.call(&Call::Advance(None, lent), &mut numbers);
             cycles += 1;
         }
-        self.steps.push(Step::Idle(cycles, lent));
+        self.everything(&mut numbers);
+        self.step(Step::Idle(cycles, lent), numbers);
     }
 
-    /// What no call changes, and the bytes past the last row.
+    /// All that the engine shows, what no call changes, and every byte of the cell memory.
     pub fn rest(&mut self) {
-        self.driver.fixed(&mut self.pending);
-        let past = self.driver.machine.lent - self.driver.machine.memory();
-        self.pending.part("bytes past the last row");
-        self.pending.put(past);
-        self.pending.all(&vec![FILLER; past as usize]);
-        self.list_ends();
-        self.steps.push(Step::Rest);
+        let mut numbers = Numbers::default();
+        self.all_shown(&mut numbers);
+        self.step(Step::Rest, numbers);
     }
 
-    pub fn end(mut self) -> Case {
-        self.list_ends();
+    pub fn end(self) -> Case {
         Case {
+            seed: self.seed,
             machine: self.driver.machine,
             steps: self.steps,
             lists: self.lists,

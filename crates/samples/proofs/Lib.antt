@@ -1,2 +1,3 @@
 mod Tests
+pub mod Cells
 pub mod Sampled

@@ -6,7 +6,7 @@ use mathlib.Core.Option.{Option, none, some}
 use mathlib.Core.List.{List, [], _∷_, _++_}
 use lib.Dec.{ltb}
 use lib.ListN.{length, drop}
-use Rattle.laws.specs.Optional.{when-some, omap}
+use Rattle.laws.specs.Optional.{omap}
 use Rattle.laws.specs.Lists.{nth}
 use Rattle.laws.specs.Texts.{Text}
 use Rattle.capability.specs.declared.PipelineHazardKind.{PipelineHazardKind}
@@ -14,6 +14,7 @@ use Rattle.capability.specs.Numbers.{class-number, hazard-number, trace-number,
 use Rattle.model.specs.Op.{Op}
 use Rattle.model.specs.Timeline.{Row, slot}
 use Rattle.model.specs.State.{Stats, State}
+use Rattle.model.specs.Scoreboard.{in-flight}
 use Rattle.model.specs.Views.{
   SlotView,
   OfferView,
@@ -240,43 +241,33 @@ rename-all s i l = ask s (calls.rename i) (read s (rename-register i) l)
 unfoldable pub queued-all : State → ℕ → List ℕ → List ℕ
 queued-all s i l = ask s (calls.queued i) (slot-texts (op-at s (in-queue i)) l)
 
--- A row's cell c, read from the row's own bytes. (It is the byte that a cell view reads: proofs/Cells.)
+-- A row's cell c, read from the row's own bytes: the byte that a cell view reads (proofs/Cells).
 unfoldable pub cell-in : Row → List ℕ → ℕ → Option ℕ
 cell-in w own c = cond (ltb c (w .count)) (nth own ((w .oldest-at + c) % 200)) none
 
 unfoldable pub cells-of : Row → List ℕ → List ℕ → List ℕ
 cells-of w own l = up-from (λ (c : ℕ). maybe cell-numbers (omap cell-view (cell-in w own c))) 0 (w .count) l
 
--- The cells are read where the call could have set some.
-unfoldable pub row-cells : Bool → State → List ℕ → Option Row → List ℕ → List ℕ
-row-cells false s m w l = l
-row-cells true s m none l = l
-row-cells true s m (some w) l = cells-of w (drop (slot (s .machine .history) (w .id)) m) l
+unfoldable pub row-cells : State → List ℕ → Option Row → List ℕ → List ℕ
+row-cells s m none l = l
+row-cells s m (some w) l = cells-of w (drop (slot (s .machine .history) (w .id)) m) l
 
-unfoldable pub row-all : Bool → State → List ℕ → ℕ → List ℕ → List ℕ
-row-all cells s m i l = ask s (calls.timeline-row i) (read s (row-disassembly i) (row-cells cells s m (nth (s .log .rows) i) l))
+-- A row and all its cells, from the cell memory m.
+unfoldable pub row-all : State → List ℕ → ℕ → List ℕ → List ℕ
+row-all s m i l = ask s (calls.timeline-row i) (read s (row-disassembly i) (row-cells s m (nth (s .log .rows) i) l))
 
--- Is cell memory lent to the call, to be set?
-unfoldable pub lends : Call → Bool
-lends calls.start = false
-lends calls.retire = false
-lends (calls.retry reason) = false
-lends (calls.resolve a) = false
-lends (calls.advance r lent) = true
-lends (calls.fetch g lent) = true
-lends (calls.capacity k n) = false
-lends (calls.overlap b) = false
-lends calls.halt = false
-lends (calls.fault note) = false
-lends (calls.reset a lent) = true
-lends (calls.redirect a) = false
-lends (calls.view v) = false
-lends (calls.cell r c lent) = false
-lends (calls.text t room) = false
+unfoldable pub ask-before : State → ℕ → List ℕ → List ℕ
+ask-before s n l = ask s (calls.in-flight-before n) l
 
--- What a call may change: of each list its length, its elements, and what one past its end gives.
-unfoldable pub everything-shown : Bool → State → List ℕ → List ℕ → List ℕ
-everything-shown cells s m l =
+-- in_flight_before at 0, at the next number, and at the number of each operation in flight and one past it.
+unfoldable pub before-all : State → List ℕ → List ℕ
+before-all s l =
+    ask-before s 0
+    (ask-before s (s .front .next-seq) (each (λ (o : Op) (k : List ℕ). ask-before s (o .core .seq) (ask-before s (suc (o .core .seq)) k)) (in-flight s) l))
+
+-- What a call may change: of each list its length, its elements, and what one past its end gives. m is the cell memory.
+unfoldable pub everything-shown : State → List ℕ → List ℕ → List ℕ
+everything-shown s m l =
     each (ask s) (calls.status ∷ calls.enabled ∷ calls.stats ∷ calls.fetch-pc ∷ calls.resume-pc ∷ [])
     (read s status-message
     (up-from (stage-all s) 0 6
@@ -291,9 +282,7 @@ everything-shown cells s m l =
     (ask s calls.queue-count
     (up-from (queued-all s) 0 (suc (length (s .queue)))
     (offer-texts (op-at s on-offer)
-    (ask s calls.timeline-len
-    (up-from (row-all cells s m) 0 (suc (length (s .log .rows)))
-    (up-from (λ (n : ℕ). ask s (calls.in-flight-before n)) (when-some (nth (s .log .rows) 0) 0 (λ (w : Row). w .id)) 4 l))))))))))))))))
+    (ask s calls.timeline-len (up-from (row-all s m) 0 (suc (length (s .log .rows))) (before-all s l))))))))))))))))
 
 -- What no call changes.
 unfoldable pub fixed-shown : State → List ℕ → List ℕ
@@ -307,5 +296,5 @@ unfoldable pub digest : Unit {0}
 unfolding hash bit maybe each up-from text-numbers hazard-numbers slot-numbers offer-numbers status-numbers stats-numbers edge-numbers
     stage-numbers unit-numbers trace-numbers row-numbers cell-numbers operand-numbers station-numbers rename-numbers answer-numbers
     look-numbers call-numbers ask read slot-texts offer-texts stage-all unit-all station-all trace-all rename-all queued-all cell-in cells-of
-    row-cells row-all lends everything-shown fixed-shown
+    row-cells row-all ask-before before-all everything-shown fixed-shown
 digest = tt

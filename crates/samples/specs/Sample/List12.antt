@@ -1,136 +1,112 @@
--- List 12 of the sample. Made by the harness: see docs/SAMPLES.md.
+-- List 12 of the sample, from seed 824. Made by the harness: see docs/SAMPLES.md.
 use Prim.Native.Nat.{ℕ}
 use mathlib.Core.Bool.{true, false}
 use mathlib.Core.Option.{none, some}
 use mathlib.Core.List.{List, [], _∷_}
 use Rattle.laws.specs.Texts.{bytes}
-use Rattle.capability.specs.declared.PipelineInstructionClass.the-variants.{Alu, Multiply, Divide, FloatingPoint, Unknown}
+use Rattle.capability.specs.declared.PipelineInstructionClass.the-variants.{Alu, Divide, Load, Store, System, FloatingPoint, Unknown}
 use Rattle.model.specs.Config.{timing, unit-spec, PipelineShape, pipeline-shape}
-use Rattle.model.specs.Requests.{station-label}
-use Rattle.model.specs.Calls.{start, retire, resolve, advance, fetch, capacity, overlap, text}
-use Rattle.samples.specs.Lists.{Step, shown, quiet, rest, Case, case-of, op}
+use Rattle.model.specs.Requests.{in-unit, source, slot-text}
+use Rattle.model.specs.Calls.{start, retire, retry, advance, fetch, capacity, overlap, halt, redirect, cell, text}
+use Rattle.samples.specs.Lists.{Step, shown, rest, Case, case-of, op}
 use Rattle.capability.specs.declared.PipelineStageRole.the-variants as role
 
 abbrev shape : PipelineShape
 shape =
-    pipeline-shape (role.Other ∷ role.Execute ∷ role.Memory ∷ role.Other ∷ role.Issue ∷ []) none (timing 0 0 0 0 0 0 0) (unit-spec
-    (bytes "FPU") [] Alu 5 ∷ []) 3
+    pipeline-shape (role.Issue ∷ []) none (timing 2 0 1 2 3 0 0) (unit-spec (bytes "12345678") [] System 4 ∷ []) 2
 
 abbrev steps : List Step
 steps =
     shown (overlap true)
-    ∷ quiet start ∷ quiet (advance none 600)
-    ∷ quiet start ∷ shown (advance none 600)
-    ∷ quiet (fetch (op 0 9223372036854775808 Multiply false false (bytes "fadd x0") none none (bytes "v1" ∷ bytes "v2" ∷ bytes "v3" ∷
-    bytes "v4" ∷ bytes "v5" ∷ bytes "v6" ∷ bytes "v7" ∷ bytes "v8" ∷ []) (bytes "v9" ∷ bytes "v10" ∷ bytes "v11" ∷ []) 592) 600)
-    ∷ quiet start ∷ quiet (advance none 600)
-    ∷ shown (fetch (op 9223372036854775808 9 Alu false false (bytes "mul x3") none (some (bytes "v20")) (bytes "v12" ∷ bytes "v13" ∷
-    bytes "v14" ∷ bytes "v15" ∷ bytes "v16" ∷ bytes "v17" ∷ bytes "v18" ∷ bytes "v19" ∷ []) (bytes "v20" ∷ bytes "v21" ∷ bytes "v22"
-    ∷ []) 612) 600)
-    ∷ quiet start ∷ shown (advance none 600)
-    ∷ quiet (fetch (op 9 14 Divide false false (bytes "div x2") none (some (bytes "v30")) (bytes "v23" ∷ bytes "v24" ∷ bytes "v25" ∷
-    bytes "v26" ∷ bytes "v27" ∷ bytes "v28" ∷ bytes "v29" ∷ []) (bytes "v30" ∷ bytes "v31" ∷ bytes "v32" ∷ []) 714) 600)
-    ∷ quiet start ∷ quiet (advance none 600)
-    ∷ quiet (fetch (op 23 9 Alu false true (32 ∷ 126 ∷ 92 ∷ 34 ∷ []) none (some (bytes "shown")) (bytes "v33" ∷ bytes "v34" ∷
-    bytes "v35" ∷ bytes "v36" ∷ bytes "v37" ∷ bytes "v38" ∷ bytes "v39" ∷ []) (bytes "v40" ∷ bytes "v41" ∷ bytes "v42" ∷ []) 222) 600)
-    ∷ quiet start ∷ quiet (advance none 600)
-    ∷ quiet (fetch (op 32 12 Multiply false false (bytes "fadd x0") none (some []) (bytes "v43" ∷ bytes "v44" ∷ bytes "v45" ∷
-    bytes "v46" ∷ bytes "v47" ∷ bytes "v48" ∷ bytes "v49" ∷ bytes "v50" ∷ []) (bytes "v51" ∷ bytes "v52" ∷ bytes "v53" ∷ []) 957) 600)
-    ∷ quiet start ∷ quiet retire ∷ quiet (advance none 600) ∷ quiet (text (station-label 4) 4)
-    ∷ quiet (fetch (op 44 15 Divide false false (bytes "div x1") none (some (bytes "x2")) (bytes "x2" ∷ bytes "x2" ∷ []) (bytes "x2"
-    ∷ []) 960) 600)
-    ∷ quiet start ∷ shown retire ∷ quiet (advance none 600)
-    ∷ quiet (fetch (op 59 0 Unknown false false (bytes "div x5") none (some (bytes "v62")) (bytes "v54" ∷ bytes "v55" ∷ bytes "v56" ∷
-    bytes "v57" ∷ bytes "v58" ∷ bytes "v59" ∷ bytes "v60" ∷ bytes "v61" ∷ []) (bytes "v62" ∷ bytes "v63" ∷ bytes "v64" ∷ []) 313) 600)
-    ∷ quiet start ∷ quiet retire ∷ shown (advance none 600)
-    ∷ quiet (fetch (op 0 6 Unknown false true (bytes "lw x6") none none (bytes "x2" ∷ bytes "x2" ∷ []) [] 956) 600)
-    ∷ quiet start ∷ quiet retire ∷ quiet (advance none 600)
-    ∷ shown (fetch (op 6 2 Multiply false true (bytes "sw x6") none (some (bytes "v72")) (bytes "v65" ∷ bytes "v66" ∷ bytes "v67" ∷
-    bytes "v68" ∷ bytes "v69" ∷ bytes "v70" ∷ bytes "v71" ∷ []) (bytes "v72" ∷ bytes "v73" ∷ bytes "v74" ∷ []) 380) 600)
-    ∷ quiet start ∷ quiet retire ∷ quiet (advance none 600)
-    ∷ quiet (fetch (op 8 9 Multiply false false (bytes "ecall x9") none (some (bytes "v82")) (bytes "v75" ∷ bytes "v76" ∷ bytes "v77"
-    ∷ bytes "v78" ∷ bytes "v79" ∷ bytes "v80" ∷ bytes "v81" ∷ []) (bytes "v82" ∷ bytes "v83" ∷ bytes "v84" ∷ bytes "v85" ∷ []) 695)
-    600)
-    ∷ quiet start ∷ quiet retire ∷ quiet (advance none 600)
-    ∷ shown (fetch (op 17 8 Alu false false (bytes "lw x5") none (some (bytes "sixteen-bytes-ok")) (bytes "v86" ∷ bytes "v87" ∷
-    bytes "v88" ∷ bytes "v89" ∷ bytes "v90" ∷ bytes "v91" ∷ bytes "v92" ∷ bytes "v93" ∷ []) (bytes "v94" ∷ bytes "v95" ∷ bytes "v96"
-    ∷ []) 604) 600)
-    ∷ quiet start ∷ quiet retire ∷ quiet (advance none 505) ∷ quiet (advance none 600)
-    ∷ quiet (fetch (op 25 2 Multiply false false (bytes "ecall x1") none (some (bytes "v104")) (bytes "v97" ∷ bytes "v98" ∷
-    bytes "v99" ∷ bytes "v100" ∷ bytes "v101" ∷ bytes "v102" ∷ bytes "v103" ∷ []) (bytes "v104" ∷ bytes "v105" ∷ bytes "v106" ∷ [])
-    283) 600)
-    ∷ quiet start ∷ quiet (advance none 600)
-    ∷ quiet (fetch (op 27 9223372036854775808 Multiply false false (bytes "xor x1") none (some (bytes "shown")) (bytes "v107" ∷
-    bytes "v108" ∷ bytes "v109" ∷ bytes "v110" ∷ bytes "v111" ∷ bytes "v112" ∷ bytes "v113" ∷ []) (bytes "v114" ∷ bytes "v115" ∷
-    bytes "v116" ∷ []) 565) 600)
-    ∷ quiet start ∷ shown retire ∷ quiet (advance none 600)
-    ∷ quiet (fetch (op 9223372036854775835 12 FloatingPoint false false (bytes "  xor  x1 ") none (some []) (bytes "v117" ∷
-    bytes "v118" ∷ bytes "v119" ∷ bytes "v120" ∷ bytes "v121" ∷ bytes "v122" ∷ bytes "v123" ∷ []) (bytes "v124" ∷ bytes "v125" ∷
-    bytes "v126" ∷ bytes "v127" ∷ []) 411) 600)
-    ∷ shown start ∷ quiet retire ∷ quiet (advance none 600)
-    ∷ quiet (fetch (op 9223372036854775847 13 Divide false false (bytes "ecall x1") none (some (bytes "shown")) (bytes "v128" ∷
-    bytes "v129" ∷ bytes "v130" ∷ bytes "v131" ∷ bytes "v132" ∷ bytes "v133" ∷ bytes "v134" ∷ []) (bytes "v135" ∷ bytes "v136" ∷
-    bytes "v137" ∷ []) 780) 600)
-    ∷ quiet start ∷ quiet retire ∷ quiet (advance none 600)
-    ∷ quiet (fetch (op 9223372036854775860 0 Multiply false false (bytes "sub x4") none (some (bytes "sixteen-bytes-ok"))
-    (bytes "v138" ∷ bytes "v139" ∷ bytes "v140" ∷ bytes "v141" ∷ bytes "v142" ∷ bytes "v143" ∷ bytes "v144" ∷ bytes "v145" ∷ [])
-    (bytes "v146" ∷ bytes "v147" ∷ bytes "v148" ∷ []) 785) 600)
-    ∷ quiet start ∷ shown retire ∷ quiet (advance none 600)
-    ∷ shown (fetch (op 9223372036854775861 10 Divide false false [] none (some []) (bytes "v149" ∷ bytes "v150" ∷ bytes "v151" ∷
-    bytes "v152" ∷ bytes "v153" ∷ bytes "v154" ∷ bytes "v155" ∷ []) (bytes "v156" ∷ bytes "v157" ∷ bytes "v158" ∷ []) 245) 600)
-    ∷ quiet start ∷ quiet retire ∷ quiet (advance none 600)
-    ∷ shown (fetch (op 9223372036854775871 7 FloatingPoint false false (bytes "sw x4") none (some (bytes "v167")) (bytes "v159" ∷
-    bytes "v160" ∷ bytes "v161" ∷ bytes "v162" ∷ bytes "v163" ∷ bytes "v164" ∷ bytes "v165" ∷ bytes "v166" ∷ []) (bytes "v167" ∷
-    bytes "v168" ∷ bytes "v169" ∷ bytes "v170" ∷ []) 26) 600)
-    ∷ quiet start ∷ quiet retire ∷ quiet (advance none 600)
-    ∷ quiet (fetch (op 50 0 Divide false false (bytes "lw x5") none (some (bytes "v179")) (bytes "v171" ∷ bytes "v172" ∷ bytes "v173"
-    ∷ bytes "v174" ∷ bytes "v175" ∷ bytes "v176" ∷ bytes "v177" ∷ bytes "v178" ∷ []) (bytes "v179" ∷ bytes "v180" ∷ bytes "v181" ∷
-    []) 442) 600)
-    ∷ quiet start ∷ quiet retire ∷ quiet (advance none 600) ∷ quiet retire
-    ∷ quiet (fetch (op 51 3 Divide false false (bytes "beq x4") none (some (bytes "v190")) (bytes "v182" ∷ bytes "v183" ∷
-    bytes "v184" ∷ bytes "v185" ∷ bytes "v186" ∷ bytes "v187" ∷ bytes "v188" ∷ bytes "v189" ∷ []) (bytes "v190" ∷ bytes "v191" ∷
-    bytes "v192" ∷ bytes "v193" ∷ []) 454) 600)
-    ∷ quiet start ∷ quiet retire ∷ quiet (advance none 600)
-    ∷ quiet (fetch (op 54 3 Multiply false false (bytes "ecall x3") none (some (bytes "v201")) (bytes "v194" ∷ bytes "v195" ∷
-    bytes "v196" ∷ bytes "v197" ∷ bytes "v198" ∷ bytes "v199" ∷ bytes "v200" ∷ []) (bytes "v201" ∷ bytes "v202" ∷ bytes "v203" ∷ [])
-    160) 600)
-    ∷ quiet start ∷ shown retire ∷ quiet (advance none 600)
-    ∷ quiet (fetch (op 57 14 Unknown false false (bytes "sub x6") none (some []) (bytes "v204" ∷ bytes "v205" ∷ bytes "v206" ∷
-    bytes "v207" ∷ bytes "v208" ∷ bytes "v209" ∷ bytes "v210" ∷ []) (bytes "v211" ∷ bytes "v212" ∷ bytes "v213" ∷ []) 150) 600)
-    ∷ quiet start ∷ shown retire ∷ quiet (capacity 0 2) ∷ quiet (advance none 600)
-    ∷ quiet (fetch (op 71 9 Alu false true (bytes "jal x1") none (some (bytes "shown")) (bytes "v214" ∷ bytes "v215" ∷ bytes "v216" ∷
-    bytes "v217" ∷ bytes "v218" ∷ bytes "v219" ∷ bytes "v220" ∷ []) (bytes "v221" ∷ bytes "v222" ∷ bytes "v223" ∷ bytes "v224" ∷ [])
-    6) 600)
-    ∷ quiet start ∷ quiet retire ∷ quiet (advance none 600)
-    ∷ quiet (fetch (op 80 9 Divide false false (bytes "mul x2") none (some []) (bytes "v225" ∷ bytes "v226" ∷ bytes "v227" ∷
-    bytes "v228" ∷ bytes "v229" ∷ bytes "v230" ∷ bytes "v231" ∷ []) (bytes "v232" ∷ bytes "v233" ∷ bytes "v234" ∷ bytes "v235" ∷ [])
-    200) 600)
-    ∷ quiet start ∷ quiet retire ∷ quiet (advance none 600)
-    ∷ quiet (fetch (op 89 11 Multiply false false (bytes "ecall x4") none (some (bytes "sixteen-bytes-ok")) (bytes "v236" ∷
-    bytes "v237" ∷ bytes "v238" ∷ bytes "v239" ∷ bytes "v240" ∷ bytes "v241" ∷ bytes "v242" ∷ bytes "v243" ∷ []) (bytes "v244" ∷
-    bytes "v245" ∷ bytes "v246" ∷ bytes "v247" ∷ []) 30) 600)
-    ∷ quiet start ∷ shown retire ∷ quiet (advance none 600)
-    ∷ quiet (fetch (op 100 3 Alu false false (bytes "? x3") none (some (bytes "v255")) (bytes "v248" ∷ bytes "v249" ∷ bytes "v250" ∷
-    bytes "v251" ∷ bytes "v252" ∷ []) (bytes "v255" ∷ bytes "v256" ∷ bytes "v257" ∷ []) 255) 600)
-    ∷ shown start ∷ shown retire ∷ quiet (advance none 600)
-    ∷ quiet (fetch (op 103 13 Alu false false (bytes "fadd x8") none (some (bytes "shown")) [] (bytes "v265" ∷ bytes "v266" ∷
-    bytes "v267" ∷ bytes "v268" ∷ []) 191) 600)
-    ∷ shown (fetch (op 103 18446744073709551615 Unknown false true (bytes "? x3") none none [] [] 9223372036854775808) 600)
-    ∷ quiet start ∷ quiet retire ∷ quiet (resolve 71) ∷ quiet (advance none 600)
-    ∷ shown (fetch (op 102 5 Alu false true (bytes "sw x7") none (some (bytes "shown")) (bytes "x1" ∷ bytes "v279" ∷ []) [] 144) 600)
-    ∷ quiet (fetch (op 102 8 FloatingPoint false false (bytes "sub x9") none (some (bytes "v289")) [] (bytes "v289" ∷ bytes "v290" ∷
-    bytes "v291" ∷ bytes "v292" ∷ []) 18446744073709551615) 600)
-    ∷ quiet (fetch (op 102 4 Multiply false false (bytes "sw x7") none (some (bytes "sixteen-bytes-ok")) [] (bytes "v300" ∷ []) 331)
-    604)
+    ∷ shown start ∷ shown (advance (some 18446744073709551614) 400)
+    ∷ shown (fetch (op 18446744073709551614 0 Store false false (bytes "jal x6") none none (bytes "x2" ∷ bytes "x6" ∷ bytes "x1" ∷
+    []) [] 385) 400)
+    ∷ shown start ∷ shown (advance none 400)
+    ∷ shown (fetch (op 18446744073709551615 4 FloatingPoint false false (32 ∷ 32 ∷ 34 ∷ 113 ∷ 34 ∷ 32 ∷ 32 ∷ 120 ∷ 49 ∷ 32 ∷ []) none
+    (some (bytes "sixteen-bytes-ok")) [] (bytes "x1" ∷ []) 53) 400)
+    ∷ shown start
+    ∷ shown (fetch (op 3 5 Load false false (bytes "div x3") (some (97 ∷ 98 ∷ 127 ∷ [])) none (bytes "x1" ∷ bytes "x5" ∷ bytes "x7" ∷
+    bytes "rflags" ∷ bytes "x0" ∷ bytes "x6" ∷ bytes "x3" ∷ bytes "x7" ∷ bytes "x4" ∷ []) (bytes "x3" ∷ []) 687) 0) ∷ shown (advance
+    (some 15638719518231225374) 400)
+    ∷ shown start ∷ shown (advance none 400)
+    ∷ shown (fetch (op 15638719518231225374 15 Divide false false (bytes "   ") none (some (bytes "sixteen-bytes-ok")) [] [] 957) 400)
+    ∷ shown start ∷ shown (advance none 400)
+    ∷ shown (fetch (op 15638719518231225389 2 Divide false false (bytes "add x9") none none (bytes "x3" ∷ bytes "x3" ∷ bytes "x0" ∷
+    []) [] 325) 400)
+    ∷ shown start ∷ shown (advance none 400)
+    ∷ shown (fetch (op 15638719518231225391 11 Unknown false false (34 ∷ 113 ∷ 34 ∷ 32 ∷ 120 ∷ 56 ∷ []) none (some
+    (bytes "sixteen-bytes-ok")) (bytes "x5" ∷ bytes "x3" ∷ []) (bytes "x2" ∷ bytes "x7" ∷ bytes "x0" ∷ []) 412) 400)
+    ∷ shown start ∷ shown (advance none 400)
+    ∷ shown (fetch (op 15638719518231225402 2 Load false false (bytes "sw x6") none none [] [] 18446744073709551614) 400)
+    ∷ shown start ∷ shown (advance none 400)
+    ∷ shown start ∷ shown (retry (31 ∷ [])) ∷ shown retire ∷ shown (advance none 400)
+    ∷ shown (fetch (op 15638719518231225404 3 Alu false false (32 ∷ 126 ∷ 92 ∷ 34 ∷ []) none (some (bytes "x3")) (bytes "x2" ∷
+    bytes "x5" ∷ []) (bytes "x3" ∷ []) 279) 400)
+    ∷ shown start ∷ shown retire ∷ shown (advance none 400)
+    ∷ shown start ∷ shown retire ∷ shown (advance none 400)
+    ∷ shown (fetch (op 15638719518231225407 6 Store false false (bytes "ecall x7") none none (bytes "a.0" ∷ bytes "rflags" ∷
+    bytes "x2" ∷ []) [] 88) 400)
+    ∷ shown start ∷ shown retire ∷ shown (advance none 400) ∷ shown halt ∷ shown (redirect 184)
+    ∷ shown start ∷ shown (advance none 400)
+    ∷ shown (fetch (op 184 14 Unknown false true (bytes "lw x2") none none (bytes "x6" ∷ bytes "x1" ∷ []) (bytes "x1" ∷ []) 747) 400)
+    ∷ shown start ∷ shown (advance none 400)
+    ∷ shown start ∷ shown (advance none 400)
+    ∷ shown start ∷ shown (advance none 400)
+    ∷ shown (fetch (op 198 5 Alu false true (32 ∷ 126 ∷ 92 ∷ 34 ∷ []) none (some (bytes "x3")) (bytes "x4" ∷ bytes "x4" ∷ bytes "x5"
+    ∷ []) (bytes "x3" ∷ []) 13) 400)
+    ∷ shown start ∷ shown (advance none 352) ∷ shown (advance none 400)
+    ∷ shown (fetch (op 203 15 Alu false false (34 ∷ 113 ∷ 34 ∷ 32 ∷ 120 ∷ 55 ∷ []) none (some (bytes "sixteen-bytes-ok")) (bytes "x6"
+    ∷ bytes "x5" ∷ bytes "x6" ∷ []) (bytes "x2" ∷ []) 968) 401)
+    ∷ shown start ∷ shown retire ∷ shown (advance (some 12) 400)
+    ∷ shown (fetch (op 12 1 Store false false (bytes "sub x8") none (some (bytes "shown")) (bytes "x7" ∷ []) (bytes "x3" ∷ []) 68)
+    400)
+    ∷ shown start ∷ shown (advance none 400) ∷ shown (capacity 0 3)
+    ∷ shown start ∷ shown (advance none 400)
+    ∷ shown start ∷ shown (advance none 400)
+    ∷ shown start ∷ shown (advance none 400)
+    ∷ shown start ∷ shown retire ∷ shown (advance none 400)
+    ∷ shown (fetch (op 1 3 Alu false true (bytes "add x6") none none (bytes "x1" ∷ bytes "x4" ∷ bytes "x2" ∷ bytes "x1" ∷ bytes "x1"
+    ∷ bytes "sixteen-bytes-ok" ∷ bytes "x0" ∷ bytes "x7" ∷ bytes "x6" ∷ []) (bytes "x5" ∷ bytes "x4" ∷ bytes "x2" ∷ bytes "x3" ∷
+    bytes "zzzzzzzzzzzzzzzzz" ∷ bytes "x1" ∷ []) 488) 400)
+    ∷ shown (fetch (op 13 10 Alu false false (bytes "xor x9") none (some (bytes "x1")) (bytes "rflags" ∷ bytes "x3" ∷ bytes "x2" ∷
+    bytes "rflags" ∷ []) (bytes "x1" ∷ bytes "x1" ∷ bytes "x2" ∷ []) 18446744073709551615) 400)
+    ∷ shown start ∷ shown (advance none 400)
+    ∷ shown (fetch (op 23 18446744073709551615 System false false (bytes "sw x9") none none [] [] 429) 400)
+    ∷ shown start ∷ shown (advance none 400)
+    ∷ shown (fetch (op 22 14 System false false (bytes "ecall x6") none (some (bytes "shown")) [] (bytes "x0" ∷ []) 720) 400)
+    ∷ shown start ∷ shown (advance none 400)
+    ∷ shown start ∷ shown (advance none 400)
+    ∷ shown start ∷ shown (advance none 400) ∷ shown (text (slot-text (in-unit 2) (source 3)) 0)
+    ∷ shown start ∷ shown (advance none 400)
+    ∷ shown start ∷ shown retire ∷ shown (advance none 400)
+    ∷ shown start ∷ shown (advance none 400)
+    ∷ shown start ∷ shown (cell 1 8 400) ∷ shown (advance none 400)
+    ∷ shown start ∷ shown (advance none 400)
+    ∷ shown start ∷ shown (advance none 400)
+    ∷ shown start ∷ shown retire
     ∷ rest ∷ []
 
 abbrev numbers : List ℕ
 numbers =
-    2025630739520490024 ∷ 2012828536562583011 ∷ 561221682773687658 ∷ 1911608461958794603 ∷ 1226480635078102793
-    ∷ 1007386344354343533 ∷ 814804626481505962 ∷ 305789217853781161 ∷ 1319479226359750326 ∷ 1100062630425239534
-    ∷ 1777113474939365651 ∷ 199645657812124458 ∷ 202611154555339057 ∷ 911515689129425106 ∷ 2144798386778554171 ∷ 195705472299134171
-    ∷ 848897393201637382 ∷ 2204141850658426634 ∷ 2184399557659304867 ∷ 1570846776551939265 ∷ 485072356457671856
-    ∷ 1445665506672007937 ∷ 7 ∷ []
+    1731988175925928133 ∷ 2100069021105508258 ∷ 1557518514772321471 ∷ 1757972042003424288 ∷ 1134072629251441747
+    ∷ 1569349086834904643 ∷ 1207804744801967500 ∷ 1381549479275658921 ∷ 1963328545318518096 ∷ 1820638530274770829
+    ∷ 2268307679500543784 ∷ 889935750288601307 ∷ 1533180558392317071 ∷ 1847109286418080342 ∷ 696144988284441328 ∷ 911939404076709856
+    ∷ 2282609703982802569 ∷ 1353498429130049175 ∷ 36306149555061560 ∷ 2234620270635977502 ∷ 1460212922827611852 ∷ 603276807453997468
+    ∷ 68682868659665692 ∷ 981244554364591684 ∷ 1787841857610472386 ∷ 2175291683645670296 ∷ 1470940507561628217 ∷ 1950608086170693080
+    ∷ 1522707745035877888 ∷ 852005142870753079 ∷ 323783861026751892 ∷ 899285974344933544 ∷ 2238560765759283220 ∷ 643033125794889413
+    ∷ 1425799634633271554 ∷ 1500178057935746243 ∷ 1585349337951697678 ∷ 1615871505416162485 ∷ 1770460450973446749
+    ∷ 2210119909859878655 ∷ 1563732700159483786 ∷ 752073727596551537 ∷ 777792768918871683 ∷ 1558692182095458656
+    ∷ 2188326885807777850 ∷ 2220450408726712586 ∷ 1571212356739993635 ∷ 239662230105906621 ∷ 35775114882997475 ∷ 2239891479067917180
+    ∷ 1476733842533446318 ∷ 1243179089130737179 ∷ 1346125345114508743 ∷ 780028920099508516 ∷ 664750304303580199 ∷ 101127829813504816
+    ∷ 190490579043680889 ∷ 1727876134256622073 ∷ 95728178856120929 ∷ 346768750193544156 ∷ 1165658932568455843 ∷ 1285518375251723693
+    ∷ 1405854591062959689 ∷ 1997976637420717802 ∷ 1469424158611939840 ∷ 1452559305222794568 ∷ 452249565150477673
+    ∷ 902213062741500980 ∷ 91985696365599808 ∷ 1858546531108311219 ∷ 1586658043974046992 ∷ 2075173934884058737 ∷ 271563542698518785
+    ∷ 249786850153062432 ∷ 831565916195921607 ∷ 861265190728330706 ∷ 815546949433249525 ∷ 1650396074948280956 ∷ 1581913588280434619
+    ∷ 1765124237701007631 ∷ 993543299260538355 ∷ 1032950554853234377 ∷ 1870973241591153269 ∷ 2149031274975415198
+    ∷ 2300293040633114438 ∷ 1374463543647186735 ∷ 1199457281298212863 ∷ 1489133825851156510 ∷ 240431329710083308
+    ∷ 2164009558050745273 ∷ 1478667482247943142 ∷ 1501782885061316410 ∷ 1871315984707866128 ∷ 700081195810987105
+    ∷ 135359225120167743 ∷ 1708581050283934176 ∷ 2012614383749797664 ∷ 2183163142189994147 ∷ 1858951886672388116
+    ∷ 898596298098773579 ∷ 1027406741801524590 ∷ 907984113689223603 ∷ 1601416687651082523 ∷ 1289619561278945202 ∷ []
 
 abbrev pub case-12 : Case
-case-12 = case-of shape 0 600 steps numbers
+case-12 = case-of shape 9223372036854775808 400 steps numbers

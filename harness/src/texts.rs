@@ -1,0 +1,95 @@
+//! The texts that the Rust's views show.
+
+use crate::call::{Field, Given, Place, Request, Text};
+use crate::capability::{PipelineDynamicInspect, PipelineEntryPhase, PipelineInspect};
+use crate::driver::Driver;
+
+impl Driver {
+    /// The text asked for, or none where the index is past the end or there is none.
+    pub fn text(&self, request: &Request) -> Option<Text> {
+        let engine = &self.engine;
+        let bytes = |text: &str| text.as_bytes().to_vec();
+        match *request {
+            Request::StatusMessage => engine.status_message().map(bytes),
+            Request::Slot(place, field) => self.slot_text(place, field),
+            Request::TraceDetail(at) => engine.trace(at as usize).map(|t| bytes(t.detail)),
+            Request::RowDisassembly(at) => engine
+                .timeline_row(at as usize)
+                .map(|row| bytes(row.disassembly)),
+            Request::StageName(at) => engine.stage(at as usize).map(|stage| bytes(stage.name)),
+            Request::UnitName(at) => engine.unit(at as usize).map(|unit| bytes(unit.name)),
+            Request::StationLabel(at) => engine
+                .station(at as usize)
+                .map(|station| bytes(station.name)),
+            Request::RenameRegister(at) => engine
+                .rename(at as usize)
+                .map(|rename| bytes(rename.register)),
+            Request::CellLabel(label) => match label {
+                0..5 => Some(bytes(["IF", "IS", "RO", "WR", "FL"][label as usize])),
+                5..8 => None,
+                _ => engine.unit(label as usize - 8).map(|unit| bytes(unit.name)),
+            },
+            Request::OperandRegister(at, operand) => {
+                let station = engine.station(at as usize)?;
+                let operand = station.operands.get(operand as usize).copied().flatten()?;
+                Some(bytes(operand.register))
+            }
+        }
+    }
+
+    /// A text of an operation. The Rust's slot views show the text, the shown destination and two
+    /// sources; the others are the operation's own, which is known where it stands.
+    pub fn slot_text(&self, place: Place, field: Field) -> Option<Text> {
+        let slot = match place {
+            Place::Queue(at) => self.engine.queued(at as usize)?,
+            Place::Station(at) => self.engine.station(at as usize)?.slot?,
+            Place::Stage(at) => self.engine.stage(at as usize)?.slot?,
+            Place::Unit(at) => self.engine.unit(at as usize)?.first?,
+            Place::Offer => {
+                let op = self.offer.as_ref()?;
+                let text = match field {
+                    Field::Disassembly => Some(&op.disassembly),
+                    Field::Destination => op.destination.as_ref(),
+                    Field::Fault => op.fault.as_ref(),
+                    Field::Source(at) => op.sources.get(at as usize),
+                    Field::Write(at) => op.writes.get(at as usize),
+                };
+                return text.map(|text| text.as_bytes().to_vec());
+            }
+        };
+        let bytes = |text: &str| text.as_bytes().to_vec();
+        match field {
+            Field::Disassembly => Some(bytes(slot.disassembly)),
+            Field::Destination => slot.destination.map(bytes),
+            Field::Source(at) if at < 2 => slot.sources[at as usize].map(bytes),
+            Field::Fault => self.held_at(place).fault.clone(),
+            Field::Source(at) => self.held_at(place).sources.get(at as usize).cloned(),
+            Field::Write(at) => self.held_at(place).writes.get(at as usize).cloned(),
+        }
+    }
+
+    /// The operation that a place shows, where what the Rust shows tells which one it is.
+    fn held_at(&self, place: Place) -> &Given {
+        let in_phase = |phase: PipelineEntryPhase| {
+            move |at: &usize| self.engine.station(*at).expect("counted").phase == phase
+        };
+        match place {
+            Place::Queue(at) => &self.queue[at as usize].1,
+            Place::Stage(0) => &self.queue[0].1,
+            Place::Station(at) => &self.units[at as usize].as_ref().expect("followed").1,
+            Place::Unit(kind) => self.oldest(|at| {
+                let station = self.engine.station(*at).expect("counted");
+                station.unit as u64 == kind && station.tag.is_some()
+            }),
+            Place::Stage(3) => self.oldest(in_phase(PipelineEntryPhase::Executing)),
+            Place::Stage(4) => self.oldest(in_phase(PipelineEntryPhase::Finished)),
+            place => panic!("{place:?} does not tell the operation"),
+        }
+    }
+
+    fn oldest(&self, passes: impl Fn(&usize) -> bool) -> &Given {
+        let units = (0..self.units.len()).filter(passes);
+        let held = units.map(|at| self.units[at].as_ref().expect("followed"));
+        &held.min_by_key(|(number, _)| *number).expect("shown").1
+    }
+}
