@@ -164,9 +164,12 @@ impl Coverage {
             self.limit("sources", given.sources.len() as u64, SOURCES as u64);
             self.limit("writes", given.writes.len() as u64, WRITES as u64);
         }
-        let bad = |text: &&Text| bad_text(text, NAME);
-        if refused == Some(9) && given.sources.iter().chain(&given.writes).any(|n| bad(&n)) {
-            self.count("operands refused beside a bad name past the limit");
+        let bad = |names: &[Text]| names.iter().any(|name| bad_text(name, NAME));
+        if refused == Some(9) && bad(&given.sources) {
+            self.count("operands refused, a source past the limit bad");
+        }
+        if refused == Some(9) && bad(&given.writes) {
+            self.count("operands refused, a write past the limit bad");
         }
         if refused.is_none() || refused == Some(10) {
             match driver.names_with(given) {

@@ -36,7 +36,7 @@ pub fn wanted() -> Vec<String> {
     list
 }
 
-const WANTED: [&str; 61] = [
+const WANTED: [&str; 62] = [
     "taken start",
     "taken retire",
     "taken retry",
@@ -77,7 +77,8 @@ const WANTED: [&str; 61] = [
     "names with the fetch: 255",
     "names with the fetch: 256",
     "names with the fetch: 257, refused",
-    "operands refused beside a bad name past the limit",
+    "operands refused, a source past the limit bad",
+    "operands refused, a write past the limit bad",
     "at the limit: kinds",
     "at the limit: units",
     "at the limit: stages",

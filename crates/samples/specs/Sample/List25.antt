@@ -1,141 +1,181 @@
--- List 25 of the sample, from seed 871. Made by the harness: see docs/SAMPLES.md.
+-- List 25 of the sample, from seed 1051. Made by the harness: see docs/SAMPLES.md.
 use Prim.Native.Nat.{ℕ}
 use mathlib.Core.Bool.{true, false}
 use mathlib.Core.Option.{none, some}
 use mathlib.Core.List.{List, [], _∷_}
 use Rattle.laws.specs.Texts.{bytes}
-use Rattle.capability.specs.declared.PipelineInstructionClass.the-variants.{Alu, Multiply, Divide, Jump, FloatingPoint, Unknown}
+use Rattle.capability.specs.declared.PipelineInstructionClass.the-variants.{
+  Alu,
+  Multiply,
+  Divide,
+  Load,
+  Store,
+  Branch,
+  Jump,
+  System,
+  FloatingPoint,
+  Unknown,
+}
 use Rattle.model.specs.Config.{timing, unit-spec, PipelineShape, pipeline-shape}
-use Rattle.model.specs.Requests.{unit-name}
-use Rattle.model.specs.Calls.{start, retire, advance, fetch, overlap, cell, text}
+use Rattle.model.specs.Calls.{stage, start, retire, resolve, advance, fetch, overlap, redirect, view}
 use Rattle.samples.specs.Lists.{Step, shown, rest, Case, case-of, op}
 use Rattle.capability.specs.declared.PipelineStageRole.the-variants as role
 
 abbrev shape : PipelineShape
 shape =
-    pipeline-shape (role.Decode ∷ role.Writeback ∷ role.Execute ∷ role.Other ∷ role.Commit ∷ role.Decode ∷ role.Memory ∷ role.Decode
-    ∷ role.Memory ∷ role.Other ∷ role.Memory ∷ role.Fetch ∷ []) none (timing 0 0 14 0 0 14 14) (unit-spec (bytes "ALU") [] Jump 5 ∷
-    []) 1
+    pipeline-shape (role.Commit ∷ role.Fetch ∷ role.Issue ∷ role.Decode ∷ role.Execute ∷ []) (some 4) (timing 0 2 1 1 0 8 0)
+    (unit-spec (bytes "FPU") [] System 5 ∷ []) 1
 
 abbrev steps : List Step
 steps =
     shown (overlap true)
     ∷ shown start ∷ shown (advance none 200)
-    ∷ shown (fetch (op 0 7 Divide false false (bytes "xor x7") (some []) (some (bytes "sixteen-bytes-ok")) (bytes "rflags" ∷ [] ∷
-    bytes "x3" ∷ bytes "x4" ∷ bytes "x5" ∷ bytes "sixteen-bytes-ok" ∷ bytes "x4" ∷ bytes "x6" ∷ []) (bytes "sixteen-bytes-ok" ∷
-    bytes "x4" ∷ bytes "sixteen-bytes-ok" ∷ bytes "rflags" ∷ []) 362) 200)
+    ∷ shown (fetch (op 0 12 Load false true (bytes "fadd x1") none (some (bytes "x0")) (bytes "x1" ∷ bytes "x0" ∷ []) (bytes "x0" ∷
+    bytes "x2" ∷ []) 0) 200)
     ∷ shown start ∷ shown (advance none 200)
-    ∷ shown (fetch (op 7 14 Alu false false (bytes "beq x0") none none (bytes "x6" ∷ bytes "x0" ∷ []) (bytes "x1" ∷ bytes "x5" ∷ [])
-    73) 200)
+    ∷ shown (fetch (op 4 12 Load false false (bytes "sw x9") none none (bytes " x 1" ∷ bytes "x2" ∷ []) [] 214) 199)
+    ∷ shown (fetch (op 4 3 System true false (bytes "? x3") none (some (97 ∷ 98 ∷ 127 ∷ [])) (bytes "x2" ∷ bytes "x0" ∷
+    bytes "sixteen-bytes-ok" ∷ bytes "x0" ∷ bytes "x3" ∷ bytes "x1" ∷ bytes "x1" ∷ bytes "zzzzzzzzzzzzzzzzz" ∷ bytes "x0" ∷ [])
+    (bytes "x0" ∷ []) 300) 200)
+    ∷ shown (fetch (op 4 10 Store false false (bytes "ecall x2") none (some (bytes "x0")) (bytes "x1" ∷ bytes "x3" ∷ []) (bytes "x0"
+    ∷ bytes "x1" ∷ []) 551) 200)
     ∷ shown start ∷ shown (advance none 200)
-    ∷ shown (fetch (op 21 5 Alu false false (bytes "add x3") (some (bytes "page fault")) (some (bytes "x6")) (bytes "x3" ∷ [])
-    (bytes "x6" ∷ []) 9223372036854775808) 200)
+    ∷ shown (fetch (op 8 1 Jump true false (32 ∷ 32 ∷ 34 ∷ 113 ∷ 34 ∷ 32 ∷ 32 ∷ 120 ∷ 49 ∷ 32 ∷ []) none (some (bytes "shown"))
+    (bytes " x 1" ∷ []) [] 374) 200)
     ∷ shown start ∷ shown (advance none 200)
-    ∷ shown (fetch (op 18446744073709551614 9223372036854775808 Divide false false (34 ∷ 113 ∷ 34 ∷ 32 ∷ 120 ∷ 48 ∷ []) none (some
-    (bytes "x5")) (bytes "sixteen-bytes-ok" ∷ bytes "x6" ∷ bytes "x2" ∷ bytes "x3" ∷ []) (bytes "x5" ∷ bytes "x0" ∷ []) 812) 204)
+    ∷ shown (fetch (op 12 18446744073709551614 Multiply false false (bytes "mul x4") none (some (bytes "rflags")) (bytes "x3" ∷
+    bytes "x0" ∷ bytes "x1" ∷ []) (bytes "rflags" ∷ bytes "x2" ∷ bytes "x2" ∷ []) 278) 200)
     ∷ shown start ∷ shown (advance none 200)
-    ∷ shown (fetch (op 9223372036854775806 9223372036854775808 Unknown false false (bytes "sw x1") none (some (bytes "shown"))
-    (bytes "x6" ∷ bytes "x2" ∷ bytes "x5" ∷ bytes "x4" ∷ []) (bytes "x3" ∷ bytes "x3" ∷ []) 533) 200)
-    ∷ shown start ∷ shown (advance none 200)
-    ∷ shown start ∷ shown (advance none 200)
-    ∷ shown start ∷ shown (advance none 200)
-    ∷ shown start ∷ shown (advance none 200)
-    ∷ shown start ∷ shown (advance none 200)
-    ∷ shown start ∷ shown (advance none 200)
-    ∷ shown start ∷ shown (advance none 200)
-    ∷ shown start ∷ shown (advance none 200)
-    ∷ shown start ∷ shown (advance none 200)
-    ∷ shown start ∷ shown (advance none 200)
-    ∷ shown start ∷ shown (advance (some 40) 200)
-    ∷ shown (fetch (op 40 2 FloatingPoint false false (bytes "mul x4") none (some (bytes "x6")) (bytes "x3" ∷ bytes "x2" ∷ bytes "x6"
-    ∷ bytes "x2" ∷ []) (bytes "x6" ∷ [] ∷ bytes "x3" ∷ []) 227) 200)
-    ∷ shown start ∷ shown (advance none 200)
-    ∷ shown (fetch (op 42 14 Multiply false false (bytes "xor x3") (some []) none (bytes "x0" ∷ bytes "x4" ∷ bytes "x6" ∷ bytes "x4"
-    ∷ []) (bytes "x4" ∷ bytes "x0" ∷ bytes "x3" ∷ []) 670) 200)
-    ∷ shown start ∷ shown (advance none 200)
-    ∷ shown start ∷ shown (advance none 200)
+    ∷ shown (fetch (op 16 0 FloatingPoint false false (bytes "add x3") (some (bytes "page fault")) none (bytes "x1" ∷ bytes "x1" ∷
+    []) [] 881) 51)
+    ∷ shown (fetch (op 16 15 Unknown false false (bytes "div x9") none (some (bytes "x3")) (bytes "x2" ∷ bytes "x2" ∷ bytes "x0" ∷
+    []) (bytes "x3" ∷ bytes "x1" ∷ bytes "x3" ∷ []) 18446744073709551615) 200)
+    ∷ shown start ∷ shown (advance none 144) ∷ shown (advance none 200)
     ∷ shown start ∷ shown retire ∷ shown (advance none 200)
+    ∷ shown (fetch (op 20 9223372036854775808 Branch true false (bytes "jal x0") (some
+    (bytes "ffffffffffffffffffffffffffffffffffffffffffffffffffffffffffffffff")) (some (bytes "x3")) (bytes "x3" ∷ bytes "x1" ∷
+    bytes "x1" ∷ bytes "x1" ∷ []) (bytes "x3" ∷ bytes "x3" ∷ [] ∷ []) 133) 199)
+    ∷ shown (fetch (op 20 13 Alu false false (bytes "xor x5") (some (31 ∷ [])) none (bytes "x2" ∷ bytes "x2" ∷ bytes "x3" ∷
+    bytes "x0" ∷ bytes "x1" ∷ bytes "x0" ∷ []) (bytes "x3" ∷ bytes "x2" ∷ bytes "x1" ∷ bytes "x2" ∷ bytes "x1" ∷ []) 872) 200)
+    ∷ shown (fetch (op 20 5 Store false false (bytes "add x7") none none [] (bytes "x2" ∷ bytes "x3" ∷ []) 1) 200)
+    ∷ shown start ∷ shown (advance (some 64) 200)
+    ∷ shown (fetch (op 64 18446744073709551615 Branch true false (bytes "xor x5") none (some []) (bytes "x0" ∷ bytes "x1" ∷ [])
+    (bytes "x3" ∷ bytes "x0" ∷ []) 174) 200)
+    ∷ shown start ∷ shown (advance none 200)
+    ∷ shown (fetch (op 68 15 Alu false false (34 ∷ 113 ∷ 34 ∷ 32 ∷ 120 ∷ 55 ∷ []) none (some []) [] [] 175) 200)
+    ∷ shown start ∷ shown (advance none 200)
+    ∷ shown (fetch (op 1 5 Jump true false (bytes "sub x7") none (some (bytes "x2")) (bytes "x1" ∷ bytes "x2" ∷ bytes "x3" ∷
+    bytes "x1" ∷ []) (bytes "x2" ∷ bytes "x1" ∷ []) 364) 200)
+    ∷ shown start ∷ shown retire ∷ shown (view (stage 6)) ∷ shown (advance none 199) ∷ shown (advance none 200)
+    ∷ shown (fetch (op 5 15 Unknown false false (bytes "xor x5") none (some (bytes "x3")) (bytes "x3" ∷ bytes "x2" ∷ bytes "x3" ∷
+    bytes "x2" ∷ []) (bytes "x3" ∷ bytes "x1" ∷ bytes "rflags" ∷ []) 18446744073709551615) 200)
+    ∷ shown start ∷ shown (advance (some 172) 200)
+    ∷ shown (fetch (op 172 0 Load false false (bytes "beq x1") none (some (bytes "shown")) (bytes "x1" ∷ bytes " x 1" ∷ [])
+    (bytes "x2" ∷ bytes "x1" ∷ []) 695) 200)
+    ∷ shown start ∷ shown (advance none 200)
+    ∷ shown (fetch (op 176 0 Multiply false false (bytes "nop x1") none (some (bytes "x2")) (bytes "x1" ∷ bytes "x1" ∷ [] ∷ [])
+    (bytes "x2" ∷ []) 226) 191)
+    ∷ shown (fetch (op 58 4 Branch false true (32 ∷ 126 ∷ 92 ∷ 34 ∷ []) none none (bytes "x0" ∷ []) [] 863) 200)
+    ∷ shown start ∷ shown (advance none 200)
+    ∷ shown (fetch (op 62 15 Jump true false (bytes "sw x2") (some
+    (bytes "zzzzzzzzzzzzzzzzzzzzzzzzzzzzzzzzzzzzzzzzzzzzzzzzzzzzzzzzzzzzzzzzz")) (some (bytes "zzzzzzzzzzzzzzzzz"))
+    (bytes "sixteen-bytes-ok" ∷ bytes "x3" ∷ []) (bytes "x2" ∷ bytes "x3" ∷ [] ∷ []) 42) 200)
+    ∷ shown start ∷ shown (resolve 68) ∷ shown (resolve 68) ∷ shown (resolve 172) ∷ shown retire
+    ∷ shown start ∷ shown (advance (some 172) 200)
+    ∷ shown (fetch (op 172 13 Divide false false (bytes "sub x6") none (some (bytes "x0")) (bytes "sixteen-bytes-ok" ∷ [])
+    (bytes "x0" ∷ []) 408) 200)
+    ∷ shown start ∷ shown (advance none 200)
+    ∷ shown (fetch (op 176 5 Alu false false (bytes "beq x1") none (some (bytes "x1")) (bytes "x2" ∷ bytes "x1" ∷ []) (bytes "x1" ∷
+    bytes "x1" ∷ []) 722) 200)
+    ∷ shown start ∷ shown (advance none 200)
+    ∷ shown (fetch (op 180 8 Alu false false (bytes "jal x1") (some
+    (bytes "ffffffffffffffffffffffffffffffffffffffffffffffffffffffffffffffff")) (some (bytes "x2")) (bytes "x3" ∷ bytes "x1" ∷
+    bytes "x2" ∷ []) (bytes "x2" ∷ [] ∷ []) 18446744073709551615) 200)
+    ∷ shown start ∷ shown (advance none 200)
+    ∷ shown (fetch (op 184 2 Store false false (bytes "jal x5") none (some (bytes "x1")) (bytes "x3" ∷ bytes "x0" ∷ []) (bytes "x1" ∷
+    []) 0) 200)
+    ∷ shown start ∷ shown (advance none 200)
+    ∷ shown (fetch (op 188 10 Store false true (bytes "jal x5") none (some (bytes "x2")) (bytes "x2" ∷ bytes "x0" ∷ [] ∷ bytes "x3" ∷
+    bytes "x3" ∷ bytes "x1" ∷ bytes "x1" ∷ bytes "x0" ∷ []) (bytes "x2" ∷ bytes "x2" ∷ bytes "x1" ∷ bytes "x2" ∷ []) 800) 200)
+    ∷ shown start ∷ shown (advance none 200)
+    ∷ shown (fetch (op 192 2 Branch true false (bytes "sub x9") none (some (bytes "x0")) (bytes "x3" ∷ bytes "x0" ∷ []) (bytes "x0" ∷
+    bytes "x0" ∷ []) 355) 200)
     ∷ shown start ∷ shown retire ∷ shown (advance none 200)
-    ∷ shown start ∷ shown retire ∷ shown (advance none 200)
-    ∷ shown (fetch (op 56 18446744073709551615 Unknown false false (bytes "mul x4") (some []) none (bytes "x1" ∷ bytes "x1" ∷
-    bytes "x6" ∷ bytes "x1" ∷ []) ([] ∷ bytes "x3" ∷ bytes "x5" ∷ []) 891) 200)
+    ∷ shown (fetch (op 196 15 Unknown false true (32 ∷ 126 ∷ 92 ∷ 34 ∷ []) (some
+    (bytes "ffffffffffffffffffffffffffffffffffffffffffffffffffffffffffffffff")) (some (bytes "sixteen-bytes-ok")) (bytes "x0" ∷
+    bytes "x1" ∷ bytes "x1" ∷ bytes "x1" ∷ []) (bytes "sixteen-bytes-ok" ∷ bytes "x1" ∷ []) 79) 200)
+    ∷ shown start ∷ shown (resolve 180) ∷ shown retire ∷ shown (advance none 200)
+    ∷ shown start ∷ shown (advance none 200) ∷ shown (redirect 1)
     ∷ shown start ∷ shown (advance none 200)
-    ∷ shown start ∷ shown (advance (some 216) 200)
-    ∷ shown (fetch (op 216 1 Multiply false false (bytes "ecall x6") none (some (bytes "sixteen-bytes-ok")) (bytes "x4" ∷ bytes "a.0"
-    ∷ []) (bytes "x2" ∷ []) 935) 200)
+    ∷ shown (fetch (op 1 15 Unknown false false (bytes "   ") none none [] [] 414) 199)
+    ∷ shown (fetch (op 1 0 Jump true false (bytes "div x4") none (some (bytes "shown")) (bytes "x0" ∷ bytes "x0" ∷ bytes "x2" ∷ [])
+    (bytes "x3" ∷ bytes "x0" ∷ []) 653) 200)
     ∷ shown start ∷ shown (advance none 200)
-    ∷ shown (fetch (op 217 6 Alu false false (bytes "aaaaaaaaaaaaaaaaaaaaaaaaaaaaaaaaaaaaaaaaaaaaaaaaaaaaaaaaaaaaaaaa") none (some
-    (bytes "shown")) [] [] 824) 200)
+    ∷ shown (fetch (op 5 6 FloatingPoint false false (bytes "beq x1") (some (bytes "page fault")) (some (bytes "sixteen-bytes-ok"))
+    (bytes "x2" ∷ bytes "x2" ∷ []) [] 35) 200)
     ∷ shown start ∷ shown (advance none 200)
-    ∷ shown (fetch (op 223 1 Divide false true (bytes "ecall x1") none (some (bytes "sixteen-bytes-ok")) (bytes "x5" ∷ bytes "x1" ∷
-    bytes "x6" ∷ bytes "x3" ∷ []) (bytes "sixteen-bytes-ok" ∷ bytes "x0" ∷ []) 205) 200)
+    ∷ shown (fetch (op 9 1 FloatingPoint false false [] none (some (bytes "rflags")) (bytes "x1" ∷ bytes "x3" ∷ bytes "x0" ∷
+    bytes "x0" ∷ bytes "x0" ∷ bytes "x3" ∷ bytes "x2" ∷ bytes "x3" ∷ []) (bytes "rflags" ∷ bytes "x1" ∷ bytes "x2" ∷ bytes "x3" ∷ [])
+    371) 200)
     ∷ shown start ∷ shown (advance none 200)
-    ∷ shown (fetch (op 224 9 FloatingPoint false false (bytes "  add  x1 ") none (some (bytes "x0")) (bytes "rflags" ∷ bytes "x1" ∷
-    bytes "x5" ∷ bytes "x1" ∷ bytes "x5" ∷ bytes " x 1" ∷ bytes "x2" ∷ bytes "x1" ∷ []) (bytes "x0" ∷ bytes "x4" ∷ bytes "x2" ∷
-    bytes "x6" ∷ []) 175) 200)
+    ∷ shown (fetch (op 13 8 System false false (bytes "nop x1") none (some (bytes "x2")) (bytes "x0" ∷ bytes "x0" ∷ bytes "a.0" ∷
+    bytes "x3" ∷ bytes "x2" ∷ bytes "x1" ∷ bytes "x1" ∷ bytes "b.0" ∷ []) (bytes "x2" ∷ bytes "rflags" ∷ bytes "x1" ∷ bytes "x2" ∷
+    []) 901) 200)
     ∷ shown start ∷ shown (advance none 200)
-    ∷ shown (fetch (op 233 0 Multiply false false (bytes "jal x6") none (some (bytes "x3")) (bytes "sixteen-bytes-ok" ∷ bytes "x5" ∷
-    bytes "x1" ∷ []) (bytes "x3" ∷ bytes "x0" ∷ bytes "x0" ∷ []) 515) 200)
+    ∷ shown (fetch (op 17 0 Store false false (bytes "add x7") none (some []) (bytes "x0" ∷ bytes "x0" ∷ []) (bytes "x3" ∷ bytes "x3"
+    ∷ []) 865) 200)
+    ∷ shown start ∷ shown (resolve 64) ∷ shown retire ∷ shown (advance (some 64) 200)
+    ∷ shown (fetch (op 25 1 Branch true false (bytes "beq x3") none (some (bytes "shown")) (bytes "x2" ∷ bytes "x1" ∷
+    bytes "sixteen-bytes-ok" ∷ []) (bytes "x0" ∷ bytes "x1" ∷ bytes "sixteen-bytes-ok" ∷ []) 568) 200)
     ∷ shown start ∷ shown (advance none 200)
-    ∷ shown start ∷ shown retire ∷ shown (advance none 200)
-    ∷ shown start ∷ shown (advance (some 220) 200)
-    ∷ shown (fetch (op 220 7 Divide false false (bytes "add x8") none (some (bytes "shown")) [] [] 869) 200)
-    ∷ shown start ∷ shown (advance none 200)
-    ∷ shown (fetch (op 58 4 Alu false false (bytes "xor x4") none none (bytes "x0" ∷ bytes "x4" ∷ []) [] 6) 200)
-    ∷ shown start ∷ shown (advance none 200)
-    ∷ shown (fetch (op 62 14 Alu false true (bytes "xor x8") (some []) (some (bytes "x5")) (bytes "x1" ∷ bytes "x5" ∷ []) (bytes "x5"
-    ∷ bytes "x5" ∷ bytes "x0" ∷ []) 807) 200)
-    ∷ shown start ∷ shown (advance none 200)
-    ∷ shown (fetch (op 76 1 Alu false false (34 ∷ 113 ∷ 34 ∷ 32 ∷ 120 ∷ 51 ∷ []) (some
-    (bytes "ffffffffffffffffffffffffffffffffffffffffffffffffffffffffffffffff")) none (bytes "x3" ∷ []) (bytes "x4" ∷ []) 437) 200)
+    ∷ shown (fetch (op 29 3 Branch true false (bytes "add x6") none none (bytes "x2" ∷ [] ∷ []) [] 453) 200)
     ∷ shown start ∷ shown (advance none 200)
     ∷ shown start ∷ shown (advance none 200)
+    ∷ shown (fetch (op 33 14 Divide false false (bytes "fadd x9") (some []) (some (bytes "x2")) (bytes "x1" ∷ bytes "x1" ∷ [])
+    (bytes "x2" ∷ bytes "x2" ∷ bytes "x0" ∷ bytes "x1" ∷ []) 286) 200)
     ∷ shown start ∷ shown (advance none 200)
+    ∷ shown (fetch (op 37 11 Alu false false (bytes "sw x2") none (some (bytes "sixteen-bytes-ok")) (bytes "x3" ∷ bytes "x2" ∷
+    bytes "x0" ∷ []) (bytes "x1" ∷ bytes "x0" ∷ []) 18446744073709551614) 200)
+    ∷ shown start ∷ shown (resolve 148) ∷ shown retire ∷ shown (advance (some 148) 200)
+    ∷ shown (fetch (op 148 0 Jump true false (bytes "fadd x4") none (some (bytes "x0")) (bytes "x0" ∷ bytes "x3" ∷ bytes "x1" ∷
+    bytes "x2" ∷ bytes "sixteen-bytes-ok" ∷ bytes "x2" ∷ bytes "x1" ∷ bytes " x 1" ∷ []) (bytes "x0" ∷ bytes "x1" ∷ bytes "x3" ∷
+    bytes "x0" ∷ []) 153) 200)
     ∷ shown start ∷ shown (advance none 200)
-    ∷ shown start ∷ shown (advance (some 8) 200)
-    ∷ shown (fetch (op 8 10 Unknown false false (bytes "xor x1") (some (bytes "page fault")) none (bytes "x5" ∷ []) [] 0) 200)
-    ∷ shown start ∷ shown (cell 0 0 200) ∷ shown retire ∷ shown (advance none 200)
-    ∷ shown start ∷ shown retire ∷ shown (advance none 200)
+    ∷ shown (fetch (op 152 14 Store false false (bytes "div x0") (some (bytes "page fault")) (some (bytes "x1")) (bytes "x0" ∷
+    bytes "x2" ∷ []) (bytes "x1" ∷ bytes "x3" ∷ bytes "x3" ∷ []) 603) 200)
     ∷ shown start ∷ shown (advance none 200)
-    ∷ shown (fetch (op 18 9223372036854775808 FloatingPoint false false (bytes "sw x3") none none (bytes "x4" ∷ bytes "x2" ∷
-    bytes "x4" ∷ []) [] 18446744073709551615) 200)
+    ∷ shown (fetch (op 0 2 Jump true false (32 ∷ 126 ∷ 92 ∷ 34 ∷ []) none (some []) ([] ∷ bytes "x0" ∷ bytes "x1" ∷ []) (bytes "x1" ∷
+    bytes "x3" ∷ []) 18446744073709551615) 200)
     ∷ shown start ∷ shown (advance none 200)
-    ∷ shown (fetch (op 9223372036854775826 1 Alu false false (bytes "nop x3") none (some (bytes "shown")) [] [] 944) 200)
-    ∷ shown start ∷ shown retire ∷ shown (advance none 200)
-    ∷ shown (fetch (op 9223372036854775827 0 Alu false false (bytes "fadd x3") none none (bytes "x4" ∷ []) [] 676) 200) ∷ shown (text
-    (unit-name 0) 200)
-    ∷ shown start ∷ shown (advance none 200)
-    ∷ shown (fetch (op 9223372036854775828 14 Alu false false (bytes "jal x6") none (some (bytes "shown")) (bytes "x4" ∷ bytes "x2" ∷
-    []) (bytes "x5" ∷ []) 1) 200)
-    ∷ shown start ∷ shown (advance none 200)
-    ∷ shown start
     ∷ rest ∷ []
 
 abbrev numbers : List ℕ
 numbers =
-    1567060512514241472 ∷ 1041639887412552372 ∷ 1942306915687400136 ∷ 304109942910520010 ∷ 1585258575538462592
-    ∷ 677628526192229271 ∷ 600224687261291221 ∷ 548376972413652263 ∷ 1280918679218357186 ∷ 1657653284808527753 ∷ 1555070690112260815
-    ∷ 404147304541748783 ∷ 1397589904389461201 ∷ 1380929913411896109 ∷ 493255048438231449 ∷ 2184494673928990164
-    ∷ 1806059951631741917 ∷ 866112409549685543 ∷ 1538150583167737100 ∷ 529549661133704849 ∷ 1182484240820519131
-    ∷ 1175384042209687862 ∷ 82997106994021199 ∷ 1289713694772123390 ∷ 161789169654403148 ∷ 915855311995358944 ∷ 687706317821305637
-    ∷ 2226254798251201154 ∷ 2270477935590074154 ∷ 1644343618571776813 ∷ 1480666163053161475 ∷ 1002163365281937488
-    ∷ 185407884765503534 ∷ 632863444237486672 ∷ 1455992693674104781 ∷ 51407258989179646 ∷ 376975463081591102 ∷ 1252848922514966976
-    ∷ 1177878051183598047 ∷ 1779872212034391236 ∷ 1000674142421659480 ∷ 2035482397179088070 ∷ 1843210089592497254
-    ∷ 947840188704451697 ∷ 1752387549775344039 ∷ 741617147832644432 ∷ 446470448738679709 ∷ 480745383290211484 ∷ 2230379623373858928
-    ∷ 1796474014431315373 ∷ 460104842713247440 ∷ 291733814485846029 ∷ 586157212563151261 ∷ 2180466267329451567 ∷ 1491937863967175472
-    ∷ 1184181236390229971 ∷ 519816786600211572 ∷ 1110792888018226757 ∷ 150982938499299294 ∷ 1417416427292462446 ∷ 321323614287220660
-    ∷ 898467661874264383 ∷ 226336951690619910 ∷ 2300483633759261340 ∷ 1796808597270298064 ∷ 2153211753051741561
-    ∷ 1981788092114746222 ∷ 2264508795807780879 ∷ 1984160481232775777 ∷ 541567931030099348 ∷ 915249046652568539
-    ∷ 1452510035775278966 ∷ 2118251944923537135 ∷ 282818952992111254 ∷ 1641196264699447009 ∷ 573837779099841060
-    ∷ 1680109328685135562 ∷ 1465761133784821647 ∷ 1107344659314175685 ∷ 171119933192521631 ∷ 1331727950038977764
-    ∷ 343579168388155684 ∷ 831375504775691533 ∷ 324951388952601717 ∷ 2002715235066092530 ∷ 1484108919668029254 ∷ 1035829030471148378
-    ∷ 681102296078093061 ∷ 569196564292674359 ∷ 119747746001348296 ∷ 1340946027462983540 ∷ 1463447463704728016 ∷ 2202737385291951505
-    ∷ 926551168638088207 ∷ 1314480537918539560 ∷ 1231659443389364371 ∷ 397713943204605101 ∷ 581893912414780698 ∷ 1983288840261078430
-    ∷ 994252248528450711 ∷ 211171311401817317 ∷ 756469044175304330 ∷ 767240215121426236 ∷ 588832645724874998 ∷ 1197994692666440868
-    ∷ 642141261669153551 ∷ 1940174847845310848 ∷ 538718460562116756 ∷ 862753241018340595 ∷ 1733963704346273105 ∷ 703983760296780458
-    ∷ 373318793163147166 ∷ 1294044335368732830 ∷ 66693974539111457 ∷ 613658516378581234 ∷ 1297986749712504995 ∷ 1932721760442279779
-    ∷ 1610703520086226751 ∷ 2071468989386678826 ∷ 1722510434713568687 ∷ 665729328340817558 ∷ 1144315461845433686
-    ∷ 2281550255214015578 ∷ 1207629205808189301 ∷ 1552473060391619849 ∷ 1393488061327941119 ∷ 1792964114760144223 ∷ []
+    1249553977097373940 ∷ 459758259241173969 ∷ 1360425287516021733 ∷ 2028071323952835558 ∷ 1166355888904194069
+    ∷ 308158690571449769 ∷ 1740831799546106476 ∷ 349294061553173053 ∷ 275988829220671290 ∷ 892987007817967402 ∷ 1633472097179308623
+    ∷ 1315491128085210917 ∷ 261826821027576228 ∷ 2266474887473514995 ∷ 867423942643532031 ∷ 2128809695318350411 ∷ 234691002908829772
+    ∷ 1117005271897390875 ∷ 118009512704288631 ∷ 1658715897564026019 ∷ 1083519450091731749 ∷ 1414541389570137168
+    ∷ 2061929358971804187 ∷ 1228143518407275850 ∷ 1383571951777426862 ∷ 1011344634514036754 ∷ 1738774172819358768
+    ∷ 347557503880979092 ∷ 1421496693419051738 ∷ 834075274957756650 ∷ 525931495505036572 ∷ 1913604946511410341 ∷ 540075596879368564
+    ∷ 1506773949190318746 ∷ 1101556285380400042 ∷ 2297163344305478248 ∷ 480534606728833850 ∷ 183027974528019890 ∷ 821254672343769873
+    ∷ 1775963211891160051 ∷ 1771014216221943727 ∷ 132008092293781074 ∷ 1118455777868836216 ∷ 597346614912759784 ∷ 17739847608883656
+    ∷ 2042441907547486036 ∷ 2160912767651500671 ∷ 1773695075455631138 ∷ 2103338679030882039 ∷ 1808049007646493010
+    ∷ 347820578307656910 ∷ 2064061788489730232 ∷ 1937377297136936168 ∷ 2238135466186617711 ∷ 1412666234017602587
+    ∷ 603629259463809990 ∷ 603629259463809990 ∷ 2003630890791490732 ∷ 2202648373985079020 ∷ 774652454269199795 ∷ 112366888317406744
+    ∷ 776226167179527284 ∷ 874891239696824110 ∷ 1547605727534490362 ∷ 1083846321373169678 ∷ 17971466533258033 ∷ 24900730014482567
+    ∷ 113899685201202078 ∷ 2059544958962710704 ∷ 1584863765677522343 ∷ 2290209005598478435 ∷ 1536729162617464920
+    ∷ 1457046507500162559 ∷ 741903912226880329 ∷ 2029328017907653557 ∷ 2135860984881915618 ∷ 606008708009161184
+    ∷ 1647112947125633554 ∷ 543543493574006595 ∷ 2206557848810620388 ∷ 1164963660165085378 ∷ 2230663306793713123
+    ∷ 679091108056684779 ∷ 2281740157708274448 ∷ 104532951832598535 ∷ 1816757653282328994 ∷ 143881571306281445 ∷ 678813687175610482
+    ∷ 2060557269485074801 ∷ 717903706147150897 ∷ 2077083094223725891 ∷ 1141846383134023782 ∷ 1541079109980375202
+    ∷ 1663749337453894232 ∷ 279560007800719976 ∷ 691179559647359490 ∷ 1957290877039157419 ∷ 977776212925129060 ∷ 2273155021049499894
+    ∷ 1033314359488842511 ∷ 955592147503383743 ∷ 1723673611899468459 ∷ 1348927603514806487 ∷ 1212871249641971505
+    ∷ 108686304312345238 ∷ 465190689098824387 ∷ 662270666202889355 ∷ 867314217794979432 ∷ 824108975835207695 ∷ 1401206895756680582
+    ∷ 1814260512286331302 ∷ 1581013583962037867 ∷ 355754334427241346 ∷ 1632185387551873433 ∷ 1232912153243211269
+    ∷ 2087076606903664272 ∷ 1516814871589526906 ∷ 1530656395600294027 ∷ 79212551466741662 ∷ 1971517161129943522
+    ∷ 1942098681616681910 ∷ 1437759175321056810 ∷ 851866273616296411 ∷ 2304971608739269604 ∷ 53335661424098513 ∷ 688100050988873489
+    ∷ 523402509323297946 ∷ 1438104096169003462 ∷ 672593001673162611 ∷ 2040967907585503473 ∷ 2195528899065701726
+    ∷ 1664664849940494967 ∷ 284402660796164208 ∷ 283128316781380554 ∷ []
 
 abbrev pub case-25 : Case
-case-25 = case-of shape 0 200 steps numbers
+case-25 = case-of shape 0 202 steps numbers

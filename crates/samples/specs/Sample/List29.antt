@@ -1,32 +1,31 @@
--- List 29 of the sample, from seed 1826. Made by the harness: see docs/SAMPLES.md.
+-- List 29 of the sample, from seed 499. Made by the harness: see docs/SAMPLES.md.
 use Prim.Native.Nat.{ℕ}
 use mathlib.Core.Bool.{true, false}
 use mathlib.Core.Option.{none, some}
 use mathlib.Core.List.{List, [], _∷_}
 use Rattle.laws.specs.Texts.{bytes}
-use Rattle.capability.specs.declared.PipelineInstructionClass.the-variants.{Alu, Divide, Load, Store, Branch, Unknown}
+use Rattle.capability.specs.declared.PipelineInstructionClass.the-variants.{Alu, Multiply, Divide, Load, Store, Branch, System, Unknown}
 use Rattle.model.specs.Config.{timing, unit-spec, PipelineShape, pipeline-shape}
 use Rattle.model.specs.Requests.{
+  in-queue,
   in-station,
-  in-unit,
   destination,
+  fault as fault-note,
   source,
-  status-message,
   slot-text,
   trace-detail,
+  row-disassembly,
   stage-name,
-  unit-name,
   station-label,
   rename-register,
-  cell-label,
   operand-register,
 }
 use Rattle.model.specs.Calls.{
+  stats,
   enabled,
-  rename-count,
-  stage,
-  unit,
-  buffer-entry,
+  unit-count,
+  station,
+  queued,
   start,
   retire,
   retry,
@@ -36,8 +35,8 @@ use Rattle.model.specs.Calls.{
   capacity,
   overlap,
   halt,
-  fault,
   reset,
+  redirect,
   view,
   cell,
   text,
@@ -47,105 +46,96 @@ use Rattle.capability.specs.declared.PipelineStageRole.the-variants as role
 
 abbrev shape : PipelineShape
 shape =
-    pipeline-shape (role.Execute ∷ role.Decode ∷ role.Fetch ∷ role.Decode ∷ role.Decode ∷ role.Other ∷ role.Memory ∷ role.Issue ∷
-    role.Fetch ∷ role.Memory ∷ []) (some 4) (timing 3 0 3 1 5 3 8) (unit-spec (bytes "A") [] Branch 1 ∷ []) 4
+    pipeline-shape (role.Decode ∷ role.Execute ∷ role.Writeback ∷ role.Issue ∷ role.Other ∷ role.Memory ∷ role.Other ∷ role.Decode ∷
+    role.Other ∷ role.Memory ∷ role.Memory ∷ role.Issue ∷ role.Other ∷ role.Decode ∷ role.Decode ∷ []) none (timing 0 5 0 2 8 5 8)
+    (unit-spec (bytes "12345678") [] Unknown 2 ∷ []) 1
 
 abbrev steps : List Step
 steps =
-    shown (overlap true) ∷ shown (text (slot-text (in-station 1) (source 3)) 0) ∷ shown (text (station-label 0) 2) ∷ shown (reset 196
-    800) ∷ shown (capacity 0 1)
-    ∷ shown start ∷ shown (text (stage-name 6) 0) ∷ shown (advance none 800) ∷ shown (view (unit 0))
-    ∷ shown (fetch (op 196 1 Alu false false (bytes "jal x5") (some (bytes "page fault")) (some (bytes "x2")) [] (bytes "x2" ∷ [])
-    459) 800) ∷ shown (advance none 800) ∷ shown (view rename-count) ∷ shown (text (cell-label 24) 0) ∷ shown (cell
-    18446744073709551615 0 800)
-    ∷ shown start ∷ shown (advance none 800) ∷ shown (cell 1 0 800)
-    ∷ shown (fetch (op 200 8 Store false false (bytes "cccccccccccccccccccccccccccccccccccccccccccccccccccccccccccccccc") none none
-    (bytes "x5" ∷ bytes "x3" ∷ bytes "x2" ∷ bytes "x1" ∷ bytes "x4" ∷ bytes "x4" ∷ bytes "x7" ∷ []) [] 18446744073709551614) 800) ∷
-    shown (view (stage 2))
-    ∷ shown start ∷ shown (advance none 800) ∷ shown (retry (31 ∷ []))
-    ∷ shown start ∷ shown (cell 18446744073709551615 0 800) ∷ shown (advance none 800) ∷ shown (cell 1 2 800) ∷ shown (fault
-    (bytes "waiting"))
-    ∷ shown start ∷ shown retire ∷ shown (view (buffer-entry 0)) ∷ shown (text (unit-name 0) 2) ∷ shown (capacity 0
-    18446744073709551615) ∷ shown (overlap false) ∷ shown (text (slot-text (in-unit 0) destination) 0) ∷ shown (cell 0 1 800) ∷ shown
-    (text status-message 200) ∷ shown (advance none 800) ∷ shown halt ∷ shown (retry (bytes "waiting")) ∷ shown (text (cell-label 9)
-    0) ∷ shown retire
-    ∷ shown (fetch (op 204 18446744073709551614 Store false false (34 ∷ 113 ∷ 34 ∷ 32 ∷ 120 ∷ 48 ∷ []) (some []) (some []) ((31 ∷ [])
-    ∷ bytes "x3" ∷ []) ((255 ∷ []) ∷ bytes "x5" ∷ bytes "x7" ∷ bytes "x7" ∷ bytes "x4" ∷ []) 472) 0)
-    ∷ shown start ∷ shown (text (station-label 2) 0) ∷ shown (resolve 13240337085818291334)
-    ∷ shown (fetch (op 204 14 Divide false true (bytes "sw x5") none none (bytes "x0" ∷ bytes "x5" ∷ bytes "x2" ∷ bytes "x3" ∷
-    bytes "x4" ∷ bytes "x7" ∷ bytes "x7" ∷ bytes "x4" ∷ bytes "x0" ∷ []) (bytes "x2" ∷ bytes "x2" ∷ bytes "x2" ∷ bytes "x2" ∷ (31 ∷
-    []) ∷ []) 834) 800) ∷ shown (text (stage-name 3) 200) ∷ shown (advance none 800) ∷ shown (capacity 0 2)
-    ∷ shown start ∷ shown (advance none 800)
-    ∷ shown start ∷ shown (view enabled) ∷ shown (advance none 800)
-    ∷ shown start ∷ shown (advance none 800) ∷ shown (reset 208 800)
+    shown (overlap true)
+    ∷ shown start ∷ shown (advance (some 6190588161699076636) 200) ∷ shown (text (slot-text (in-queue 0) fault-note) 0)
+    ∷ shown (fetch (op 6190588161699076636 0 Load false false (bytes "nop x1") none (some (bytes "sixteen-bytes-ok")) (bytes "x5" ∷
+    bytes "x3" ∷ bytes "x1" ∷ []) [] 787) 200)
+    ∷ shown start ∷ shown (advance none 200)
+    ∷ shown start ∷ shown (advance none 200) ∷ shown (advance (some 88) 200) ∷ shown (overlap false) ∷ shown (view stats) ∷ shown
+    (text (rename-register 0) 1) ∷ shown (text (slot-text (in-station 3) destination) 0) ∷ shown (capacity 0 65)
+    ∷ shown (fetch (op 6190588161699076637 11 Alu false false (bytes "add x2") none (some []) (bytes "x6" ∷ [] ∷ []) (bytes "x3" ∷
+    []) 463) 200) ∷ shown (overlap false) ∷ shown (text (rename-register 0) 0) ∷ shown halt
+    ∷ shown start ∷ shown (advance none 200) ∷ shown (reset 18446744073709551614 200)
+    ∷ shown start ∷ shown (advance (some 8861283483217574691) 200) ∷ shown (capacity 0 65)
+    ∷ shown (fetch (op 8861283483217574691 4 Divide false false (bytes "sub x9") none none (bytes "x1" ∷ bytes "x1" ∷ bytes "x1" ∷
+    bytes "x1" ∷ bytes "x1" ∷ (10 ∷ []) ∷ []) (bytes "x2" ∷ bytes "x2" ∷ bytes "x2" ∷ (31 ∷ []) ∷ []) 608) 9) ∷ shown (view
+    unit-count) ∷ shown (text (rename-register 0) 200)
+    ∷ shown (fetch (op 8861283483217574691 9223372036854775808 Load false false (bytes "lw x7") (some
+    (bytes "ffffffffffffffffffffffffffffffffffffffffffffffffffffffffffffffff")) (some (bytes "x7")) [] (bytes "x7" ∷ []) 741) 200) ∷
+    shown (capacity 0 0) ∷ shown (cell 0 0 200)
+    ∷ shown start ∷ shown (advance none 200)
+    ∷ shown start ∷ shown (advance none 200) ∷ shown (overlap true)
+    ∷ shown start ∷ shown (text (trace-detail 0) 0) ∷ shown (advance none 200)
+    ∷ shown (fetch (op 18084655520072350499 0 Unknown false false (bytes "lw x0") none (some []) (bytes "x7" ∷ bytes "x4" ∷
+    bytes "x3" ∷ []) ([] ∷ bytes "x3" ∷ bytes "x6" ∷ []) 792) 200) ∷ shown (retry (bytes "waiting"))
+    ∷ shown start ∷ shown (resolve 188) ∷ shown (redirect 12)
+    ∷ shown start ∷ shown (advance none 200) ∷ shown (reset 0 200)
+    ∷ shown start ∷ shown (advance none 200)
+    ∷ shown (fetch (op 0 15 Alu false false (bytes "mul x5") none (some (bytes "sixteen-bytes-ok")) (bytes "x4" ∷ []) [] 685) 200)
+    ∷ shown start ∷ shown (advance none 200) ∷ shown retire
+    ∷ shown (fetch (op 15 15 System false false (bytes "ecall x3") (some
+    (bytes "ffffffffffffffffffffffffffffffffffffffffffffffffffffffffffffffff")) none (bytes "x6" ∷ bytes "x7" ∷ bytes "x4" ∷ [])
+    (bytes "x1" ∷ bytes "x0" ∷ []) 527) 200) ∷ shown (overlap false) ∷ shown (capacity 0 1)
+    ∷ shown start ∷ shown (advance none 200)
+    ∷ shown start ∷ shown (text (stage-name 0) 2) ∷ shown (view (station 0)) ∷ shown (advance none 200)
+    ∷ shown start ∷ shown (advance none 200) ∷ shown (text (row-disassembly 0) 8)
+    ∷ shown start ∷ shown retire ∷ shown (view (queued 0))
+    ∷ shown (fetch (op 30 0 Store false false (bytes "add x1") none (some []) (bytes "x7" ∷ bytes "x4" ∷ bytes "x4" ∷ bytes "x4" ∷
+    bytes "x1" ∷ bytes "sixteen-bytes-ok" ∷ bytes "x1" ∷ bytes "x0" ∷ bytes "x2" ∷ []) (bytes "x6" ∷ []) 896) 200) ∷ shown (text
+    (slot-text (in-station 0) (source 1)) 0) ∷ shown (advance none 200) ∷ shown (view enabled)
+    ∷ shown start ∷ shown (advance none 200)
+    ∷ shown start ∷ shown (cell 0 0 200) ∷ shown (advance none 200) ∷ shown (text (rename-register 1) 2) ∷ shown (overlap true)
     ∷ shown start
-    ∷ shown start ∷ shown (advance none 800) ∷ shown (capacity 2 3) ∷ shown (retry
-    (bytes "zzzzzzzzzzzzzzzzzzzzzzzzzzzzzzzzzzzzzzzzzzzzzzzzzzzzzzzzzzzzzzzzz"))
-    ∷ shown (fetch (op 208 4 Unknown false false (bytes "div x7") (some (97 ∷ 98 ∷ 127 ∷ [])) none [] [] 573) 405)
-    ∷ shown start ∷ shown (text (rename-register 0) 0) ∷ shown (advance none 800) ∷ shown (capacity 0 3)
-    ∷ shown (fetch (op 208 7 Load false false (bytes "mul x4") none (some []) (bytes "x7" ∷ []) (bytes "x2" ∷ []) 76) 800) ∷ shown
-    (resolve 228)
-    ∷ shown start ∷ shown (text (station-label 1) 2) ∷ shown (overlap true) ∷ shown (view (unit 0)) ∷ shown (advance none 800) ∷
-    shown (text (slot-text (in-station 3) (source 1)) 0)
-    ∷ shown start ∷ shown (capacity 0 4) ∷ shown (advance none 800) ∷ shown (text (slot-text (in-unit 1) (source 5)) 0) ∷ shown (text
-    (stage-name 18446744073709551615) 200)
-    ∷ shown (fetch (op 212 11 Alu false false (bytes "lw x1") (some (bytes "page fault")) (some (bytes "x6")) (bytes "x4" ∷
-    bytes "x0" ∷ bytes "x2" ∷ []) (bytes "x6" ∷ bytes "x7" ∷ []) 9223372036854775808) 800)
-    ∷ shown start ∷ shown (advance none 800) ∷ shown (retry (bytes "waiting"))
-    ∷ shown (fetch (op 216 7 Load false false (bytes "bbbbbbbbbbbbbbbbbbbbbbbbbbbbbbbbbbbbbbbbbbbbbbbbbbbbbbbbbbbbbbbb") (some
-    (bytes "page fault")) (some (bytes "x4")) [] (bytes "x4" ∷ []) 67) 800)
-    ∷ shown start ∷ shown (advance none 800)
-    ∷ shown (fetch (op 7 10 Store false true (bytes "fadd x6") none (some (bytes "sixteen-bytes-ok")) (bytes "x1" ∷ bytes "x5" ∷ [])
-    [] 375) 800)
-    ∷ shown start ∷ shown (advance none 800) ∷ shown (resolve 5147220572574518608)
-    ∷ shown start ∷ shown (advance none 800) ∷ shown (text (trace-detail 18446744073709551615) 0) ∷ shown (text (operand-register 1
-    2) 0) ∷ shown retire ∷ shown (advance none 800)
-    ∷ shown (fetch (op 9223372036854775808 1 Load false true
-    (bytes "ecall                                                           ") none (some (bytes "x0")) (bytes "x5" ∷ bytes "x6" ∷
-    bytes "x0" ∷ bytes "x5" ∷ bytes "a.0" ∷ bytes "x7" ∷ bytes "b.0" ∷ bytes "rflags" ∷ []) (bytes "x0" ∷ bytes "sixteen-bytes-ok" ∷
-    bytes "x1" ∷ bytes "x1" ∷ []) 144) 800) ∷ shown (reset 12477539769185324842 800)
-    ∷ shown (fetch (op 48 18446744073709551614 Load false false (bytes "beq x3") (some (bytes "page fault")) (some (bytes "x6"))
-    (bytes "x5" ∷ bytes "x4" ∷ bytes "x7" ∷ []) (bytes "x7" ∷ bytes "x1" ∷ bytes "rflags" ∷ bytes "x7" ∷ bytes "x4" ∷ []) 392) 0)
-    ∷ shown (fetch (op 12477539769185324842 13 Load false false (bytes "? x0") none (some (bytes "shown")) (bytes "x4" ∷ bytes "x7" ∷
-    bytes "x1" ∷ bytes "x3" ∷ bytes "rflags" ∷ bytes "x2" ∷ bytes "x0" ∷ bytes "x6" ∷ []) (bytes "x0" ∷ bytes "x3" ∷ bytes "x0" ∷
-    bytes "x4" ∷ bytes "x4" ∷ []) 0) 800)
-    ∷ shown start ∷ shown (advance none 800) ∷ shown (capacity 2 4) ∷ shown (overlap false) ∷ shown (overlap false)
-    ∷ shown (fetch (op 12477539769185324842 6 Divide false true (34 ∷ 113 ∷ 34 ∷ 32 ∷ 120 ∷ 56 ∷ []) (some []) none [] [] 462) 800)
-    ∷ shown start ∷ shown (advance none 800)
-    ∷ shown start ∷ shown (advance none 800)
-    ∷ shown start ∷ shown (advance none 800)
-    ∷ shown start ∷ shown (advance none 800) ∷ shown (advance none 800)
-    ∷ shown start
-    ∷ shown (fetch (op 12477539769185324846 11 Alu false false (bytes "jal x0") (some []) none (bytes "x3" ∷ bytes "x5" ∷ bytes "x0"
-    ∷ []) (bytes "zzzzzzzzzzzzzzzzz" ∷ []) 515) 800) ∷ shown (advance none 800) ∷ shown (capacity 0 2)
+    ∷ shown (fetch (op 30 1 Alu false false (bytes "add x0") none (some (97 ∷ 98 ∷ 127 ∷ [])) (bytes "x4" ∷ bytes "x5" ∷ bytes "x2" ∷
+    bytes "x4" ∷ bytes "x7" ∷ bytes "x4" ∷ bytes "x1" ∷ bytes "x1" ∷ (10 ∷ []) ∷ []) (bytes "x2" ∷ bytes "x2" ∷ bytes "x2" ∷
+    bytes "zzzzzzzzzzzzzzzzz" ∷ []) 413) 200) ∷ shown (resolve 232) ∷ shown (resolve 208) ∷ shown (advance none 200)
+    ∷ shown (fetch (op 30 5 Branch true false (bytes "? x1") (some []) (some (bytes "sixteen-bytes-ok")) (bytes "x3" ∷ bytes "x2" ∷
+    []) (bytes "x7" ∷ []) 364) 200) ∷ shown (capacity 2 1) ∷ shown (advance (some 32) 200)
+    ∷ shown start ∷ shown (advance none 200)
+    ∷ shown start ∷ shown (advance none 200)
+    ∷ shown start ∷ shown (advance none 0) ∷ shown (resolve 116) ∷ shown (cell 1 0 200) ∷ shown (advance none 200)
+    ∷ shown start ∷ shown retire ∷ shown (advance none 200) ∷ shown (resolve 17465787988831859147)
+    ∷ shown start ∷ shown (advance none 200)
+    ∷ shown start ∷ shown retire ∷ shown (text (station-label 1) 0) ∷ shown (advance (some 104) 200) ∷ shown (view enabled)
+    ∷ shown (fetch (op 104 0 Store false false (bytes "ecall x2") none (some (bytes "x5")) (bytes "x5" ∷ bytes "x7" ∷ bytes "x0" ∷
+    bytes "x4" ∷ bytes "x2" ∷ bytes "x1" ∷ bytes "x3" ∷ bytes "x0" ∷ []) (bytes "x5" ∷ bytes "x7" ∷ bytes "x2" ∷ bytes "x7" ∷ [])
+    355) 200)
+    ∷ shown (fetch (op 105 4 Multiply false false (34 ∷ 113 ∷ 34 ∷ 32 ∷ 120 ∷ 53 ∷ []) none (some (bytes "x6")) (bytes "x6" ∷
+    bytes "x3" ∷ bytes "x2" ∷ bytes "x4" ∷ bytes " x 1" ∷ bytes "x3" ∷ bytes "x6" ∷ bytes "x4" ∷ bytes "x5" ∷ []) (bytes "x6" ∷ [])
+    327) 200)
+    ∷ shown start ∷ shown (text (operand-register 1 1) 0) ∷ shown (retry (31 ∷ []))
     ∷ rest ∷ []
 
 abbrev numbers : List ℕ
 numbers =
-    1188311742796663240 ∷ 2281285310394481593 ∷ 497315994711705916 ∷ 1699492201828727292 ∷ 1342884832997748927
-    ∷ 1342884832997748927 ∷ 1621339911253578648 ∷ 1511836960982336322 ∷ 1054864164680148965 ∷ 1268028066303114911
-    ∷ 1596039311166316027 ∷ 2124888495580641649 ∷ 232567567104086415 ∷ 474118081609461994 ∷ 1015147806120332861
-    ∷ 1333151813197997998 ∷ 2157942131641397249 ∷ 777674064653010342 ∷ 1269094425199959830 ∷ 281131566584711582
-    ∷ 1375867870721774950 ∷ 178159450445572780 ∷ 627179615291883186 ∷ 1298931436873968206 ∷ 1173051202845295399
-    ∷ 1725986456727663030 ∷ 1890604777546661502 ∷ 432658449249945212 ∷ 2018929473439391871 ∷ 2058688366389774055
-    ∷ 1076471982215982687 ∷ 2199817871781414732 ∷ 547475791398159409 ∷ 1740563739824298790 ∷ 65046616285676869 ∷ 2086871307389349469
-    ∷ 328068543986913819 ∷ 948600514307622979 ∷ 1251980041482170257 ∷ 2088063289154832938 ∷ 1723035315308481563
-    ∷ 2088063289154832938 ∷ 1236451112217332651 ∷ 1644222692757948510 ∷ 654471524904509295 ∷ 735628773105027241
-    ∷ 1303370224396694099 ∷ 1436676556575778361 ∷ 849592258535869205 ∷ 1436585810586910986 ∷ 512201177982908886 ∷ 456112951913227502
-    ∷ 1621669768315916154 ∷ 1481449203141712694 ∷ 1565581542246234770 ∷ 425295349435229471 ∷ 369207123365548087
-    ∷ 2158669616034306517 ∷ 312726047440255161 ∷ 2088864670792405162 ∷ 1377779614028602550 ∷ 74435928486414391 ∷ 972369949549021084
-    ∷ 2016011104065479367 ∷ 1544731838070522837 ∷ 368200724610303074 ∷ 303942395445176275 ∷ 1569610787718780774
-    ∷ 2027374656359943730 ∷ 1000271203858860762 ∷ 1418725505678557632 ∷ 214270509905718959 ∷ 473461876991580418
-    ∷ 1159152954040145176 ∷ 1344130211687346244 ∷ 945694996794156068 ∷ 1823081768107892608 ∷ 1542061962176364840
-    ∷ 471658124879701796 ∷ 1115450526401043258 ∷ 1115450526401043258 ∷ 1314583136442422885 ∷ 1905411758795694280
-    ∷ 386853559407994803 ∷ 97985037826066633 ∷ 825455608760486394 ∷ 75431311318119228 ∷ 1906632404660893333 ∷ 51323439851010507
-    ∷ 1127028351460339030 ∷ 1327812784857972490 ∷ 598607022651243168 ∷ 111937016346230878 ∷ 1298757268448747602
-    ∷ 1850177577516013043 ∷ 1850177577516013043 ∷ 132274952943837394 ∷ 904605295099940505 ∷ 34477933448090909 ∷ 945750395263211470
-    ∷ 1080118727748880412 ∷ 1080118727748880412 ∷ 436189811284817114 ∷ 1687500927547844166 ∷ 2219853724905790204
-    ∷ 2290265068560550331 ∷ 2290265068560550331 ∷ 454047803456773680 ∷ 642825935743455804 ∷ 2176873618413963341
-    ∷ 2000110413034685918 ∷ 909143604452779442 ∷ 937296150482559833 ∷ 1467864795862786252 ∷ 1532584205912101989
-    ∷ 1077421729952187016 ∷ 687698668193038186 ∷ 274706828128692102 ∷ 1105386350251039491 ∷ 2303966192062844407 ∷ 224832534341574293
-    ∷ 1488772189753978906 ∷ []
+    2026175138268718566 ∷ 235321636365919987 ∷ 2043474976227565219 ∷ 1901386131989606467 ∷ 1054906515133707593
+    ∷ 2123319721455214596 ∷ 781508609310606198 ∷ 1284560938482887543 ∷ 1095563368898086856 ∷ 1737747366264849626
+    ∷ 652721327973136448 ∷ 1229671299726799550 ∷ 1161112007096525715 ∷ 166118628346042768 ∷ 166118628346042768 ∷ 2281231370208527118
+    ∷ 1375073410244213669 ∷ 1375073410244213669 ∷ 114203394643450274 ∷ 896143152962585165 ∷ 1183522394282441411
+    ∷ 1674363741391301684 ∷ 1011620188167109573 ∷ 513930518815060854 ∷ 1940446237552347593 ∷ 1905679739067267138
+    ∷ 1952730472693219804 ∷ 785237914803875931 ∷ 62270801270895587 ∷ 804648679651068841 ∷ 850161358447708900 ∷ 1010573865582795872
+    ∷ 1429759154098325181 ∷ 143543235316211916 ∷ 419964935550356625 ∷ 136526944929107843 ∷ 533232427925600828 ∷ 964483554237781951
+    ∷ 1365557716725667885 ∷ 1625538471651843435 ∷ 1039723505167604041 ∷ 1495524818216084544 ∷ 972495995719308806
+    ∷ 177313266976215951 ∷ 1982831371630066730 ∷ 1199248331924033299 ∷ 540968360099003623 ∷ 1894997673422629512
+    ∷ 1150208464027656743 ∷ 1053513633332427202 ∷ 882707555134367901 ∷ 1274950206410146154 ∷ 1922553943043833902
+    ∷ 468379760000187859 ∷ 514427283358332212 ∷ 1047017943238266354 ∷ 1047017943238266354 ∷ 1806935937046382276
+    ∷ 1403571521023814049 ∷ 1558667532014287375 ∷ 947312242900043096 ∷ 848881655609404893 ∷ 1615420049607333125 ∷ 179322878799960055
+    ∷ 2221800873039659215 ∷ 1438979522279744660 ∷ 471557650766880523 ∷ 1028544563088354895 ∷ 1614778320643436427
+    ∷ 2068910156527905898 ∷ 1834425368834567904 ∷ 1639926696647601497 ∷ 974807748461219440 ∷ 1117203080095423409
+    ∷ 2302663742635297919 ∷ 507284131097994996 ∷ 1583401255656768356 ∷ 344492062025132347 ∷ 1802947963586839476
+    ∷ 1122473144805256816 ∷ 1055245635356961581 ∷ 1708373634733307222 ∷ 260062906613868726 ∷ 260062906613868726 ∷ 223377247244862879
+    ∷ 2029527275168251138 ∷ 1051720898787838984 ∷ 112011940249602501 ∷ 1002386560857541535 ∷ 105469996847312393 ∷ 840458088224110289
+    ∷ 1623402726384349651 ∷ 613237402017470819 ∷ 1117818040373769516 ∷ 1887156642821719856 ∷ 2046208393377270601
+    ∷ 1907846817585253019 ∷ 1546903241739107771 ∷ 1115852366738534472 ∷ 1752715468371456700 ∷ 1180144282380469205
+    ∷ 1274163178714007113 ∷ 987550943491714118 ∷ 505408990692486700 ∷ 1621897872977248058 ∷ 1453663728062064562
+    ∷ 1048065996159975956 ∷ 1610187147702771828 ∷ 583677583585470819 ∷ 2139613964237354251 ∷ 1069033441344805460
+    ∷ 780547842596308902 ∷ 513022894383115297 ∷ 150296797673026285 ∷ []
 
 abbrev pub case-29 : Case
-case-29 = case-of shape 0 800 steps numbers
+case-29 = case-of shape 0 200 steps numbers

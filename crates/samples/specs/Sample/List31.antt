@@ -1,154 +1,170 @@
--- List 31 of the sample, from seed 1423. Made by the harness: see docs/SAMPLES.md.
+-- List 31 of the sample, from seed 441. Made by the harness: see docs/SAMPLES.md.
 use Prim.Native.Nat.{ℕ}
 use mathlib.Core.Bool.{true, false}
 use mathlib.Core.Option.{none, some}
 use mathlib.Core.List.{List, [], _∷_}
 use Rattle.laws.specs.Texts.{bytes}
-use Rattle.capability.specs.declared.PipelineInstructionClass.the-variants.{Alu, Multiply, Divide, Store, FloatingPoint, Unknown}
+use Rattle.capability.specs.declared.PipelineInstructionClass.the-variants.{
+  Alu,
+  Multiply,
+  Divide,
+  Load,
+  Store,
+  Jump,
+  System,
+  FloatingPoint,
+}
 use Rattle.model.specs.Config.{timing, unit-spec, PipelineShape, pipeline-shape}
-use Rattle.model.specs.Requests.{in-queue, in-unit, destination, slot-text, cell-label}
-use Rattle.model.specs.Calls.{start, retire, retry, advance, fetch, overlap, text}
+use Rattle.model.specs.Requests.{
+  in-queue,
+  in-station,
+  in-stage,
+  in-unit,
+  disassembly,
+  fault as fault-note,
+  source,
+  write,
+  slot-text,
+  trace-detail,
+  row-disassembly,
+  stage-name,
+  unit-name,
+  station-label,
+  cell-label,
+  operand-register,
+}
+use Rattle.model.specs.Calls.{
+  status,
+  resume-pc,
+  entry-stages,
+  station-count,
+  queue-count,
+  buffer-count,
+  buffer-capacity,
+  unit,
+  trace,
+  start,
+  retire,
+  retry,
+  resolve,
+  advance,
+  fetch,
+  capacity,
+  overlap,
+  fault,
+  reset,
+  redirect,
+  view,
+  cell,
+  text,
+}
 use Rattle.samples.specs.Lists.{Step, shown, rest, Case, case-of, op}
-use Rattle.capability.specs.declared.PipelineStageRole.the-variants as role
 
 abbrev shape : PipelineShape
 shape =
-    pipeline-shape (role.Decode ∷ role.Decode ∷ role.Execute ∷ []) none (timing 1 0 0 1 0 9 9) (unit-spec (bytes "BR") [] Divide 6 ∷
-    []) 2
+    pipeline-shape [] none (timing 0 2 8 0 8 2 2) (unit-spec (bytes "SYS") (Divide ∷ Divide ∷ FloatingPoint ∷ Multiply ∷ []) Alu 2 ∷
+    unit-spec (126 ∷ 34 ∷ 92 ∷ 120 ∷ []) (Divide ∷ FloatingPoint ∷ System ∷ []) Alu 4 ∷ []) 2
 
 abbrev steps : List Step
 steps =
     shown (overlap true)
+    ∷ shown start ∷ shown (fault (bytes "waiting")) ∷ shown (redirect 192) ∷ shown (view queue-count)
+    ∷ shown start ∷ shown (capacity 2 65) ∷ shown (advance none 400) ∷ shown (text (slot-text (in-queue 0) fault-note) 0)
+    ∷ shown (fetch (op 192 4 Alu false false (bytes "~~~~~~~~~~~~~~~~~~~~~~~~~~~~~~~~~~~~~~~~~~~~~~~~~~~~~~~~~~~~~~~~") none (some
+    []) (bytes "x0" ∷ bytes "x0" ∷ bytes "x7" ∷ []) (bytes "x3" ∷ []) 240) 400)
+    ∷ shown start ∷ shown (reset 14044098180716713324 400)
+    ∷ shown start
+    ∷ shown (fetch (op 14044098180716713324 6 Alu false false (bytes "mul x1") (some (9 ∷ [])) (some (bytes "x5")) (bytes "x7" ∷
+    bytes "x7" ∷ bytes "x6" ∷ bytes "x1" ∷ bytes "x6" ∷ bytes "x4" ∷ bytes "x6" ∷ bytes "a.0" ∷ bytes "x2" ∷ []) (bytes "x5" ∷ (31 ∷
+    []) ∷ []) 973) 400)
+    ∷ shown (fetch (op 14044098180716713324 9 Multiply false false (bytes "fadd x1") none (some (bytes "sixteen-bytes-ok"))
+    (bytes "x6" ∷ bytes "x4" ∷ bytes "x2" ∷ bytes "x4" ∷ bytes "x6" ∷ bytes "x1" ∷ bytes "x0" ∷ []) (bytes "x1" ∷ bytes "x7" ∷
+    bytes "b.0" ∷ bytes "x3" ∷ []) 527) 400) ∷ shown (text (slot-text (in-unit 0) (write 0)) 0) ∷ shown (capacity 1 3) ∷ shown (text
+    (slot-text (in-station 7) (source 4)) 0) ∷ shown (advance none 400)
+    ∷ shown (fetch (op 14044098180716713324 4 Multiply false false (bytes "ecall x7") none (some (bytes "sixteen-bytes-ok"))
+    (bytes "sixteen-bytes-ok" ∷ bytes "x2" ∷ []) (bytes "x1" ∷ []) 0) 400)
+    ∷ shown start ∷ shown (advance none 400) ∷ shown (retry
+    (bytes "zzzzzzzzzzzzzzzzzzzzzzzzzzzzzzzzzzzzzzzzzzzzzzzzzzzzzzzzzzzzzzzzz"))
+    ∷ shown (fetch (op 14044098180716713328 10 Divide false false (bytes "beq x0") none (some (bytes "shown")) (bytes "x4" ∷
+    bytes "x5" ∷ []) (bytes "sixteen-bytes-ok" ∷ bytes "x5" ∷ []) 0) 400)
+    ∷ shown (fetch (op 14044098180716713338 1 Alu false false
+    (bytes "zzzzzzzzzzzzzzzzzzzzzzzzzzzzzzzzzzzzzzzzzzzzzzzzzzzzzzzzzzzzzzzzz") none (some (31 ∷ [])) (bytes "x2" ∷ bytes "x3" ∷
+    bytes "x3" ∷ bytes "x2" ∷ bytes "x3" ∷ bytes "x3" ∷ bytes "x6" ∷ bytes "x6" ∷ []) [] 692) 0) ∷ shown (capacity 0 65)
     ∷ shown start ∷ shown (advance none 400)
-    ∷ shown (fetch (op 0 5 Store false true (34 ∷ 113 ∷ 34 ∷ 32 ∷ 120 ∷ 53 ∷ []) none (some []) (bytes "x0" ∷ []) (bytes "x0" ∷ [])
-    199) 400)
+    ∷ shown (fetch (op 14044098180716713338 5 Load false false (bytes "beq x7") none (some (bytes "x0")) (bytes "x3" ∷ [])
+    (bytes "x0" ∷ []) 526) 400) ∷ shown (capacity 2 18446744073709551614)
     ∷ shown start ∷ shown (advance none 400)
-    ∷ shown (fetch (op 5 18446744073709551614 Alu false true (bytes "beq x9") none (some (bytes "shown")) (bytes "x2" ∷ [])
-    (bytes "x3" ∷ []) 122) 400)
+    ∷ shown (fetch (op 14044098180716713343 13 Jump true true (bytes "? x0") none (some []) (bytes "x7" ∷ bytes "x2" ∷ bytes "x4" ∷
+    []) (bytes "x4" ∷ bytes "rflags" ∷ bytes "x7" ∷ bytes "rflags" ∷ []) 372) 400) ∷ shown (view buffer-count)
+    ∷ shown start ∷ shown (advance none 400) ∷ shown (resolve 18446744073709551615)
     ∷ shown start ∷ shown (advance none 400)
-    ∷ shown (fetch (op 3 15 Unknown false false (bytes "? x8") none (some (bytes "x2")) (bytes "x4" ∷ []) (bytes "x2" ∷ []) 501) 400)
+    ∷ shown start ∷ shown (advance (some 68) 0) ∷ shown (text (trace-detail 0) 0) ∷ shown (advance none 400)
+    ∷ shown start ∷ shown retire ∷ shown (text (stage-name 2) 1) ∷ shown (overlap true) ∷ shown (advance none 404)
+    ∷ shown (fetch (op 14044098180716713343 6 Alu false false (bytes "jal x4") none none (bytes "x6" ∷ []) ([] ∷ []) 47) 400) ∷ shown
+    (cell 1 0 400)
+    ∷ shown (fetch (op 14044098180716713349 5 Divide false false
+    (bytes "zzzzzzzzzzzzzzzzzzzzzzzzzzzzzzzzzzzzzzzzzzzzzzzzzzzzzzzzzzzzzzzzz") (some
+    (bytes "ffffffffffffffffffffffffffffffffffffffffffffffffffffffffffffffff")) (some (bytes "x0")) (bytes " x 1" ∷ []) (bytes "x0" ∷
+    []) 325) 0)
+    ∷ shown start ∷ shown (view buffer-capacity) ∷ shown (view status) ∷ shown (advance none 400)
+    ∷ shown start ∷ shown (view station-count) ∷ shown (advance none 400)
+    ∷ shown start ∷ shown (capacity 0 3) ∷ shown (advance none 400) ∷ shown (view (unit 0))
+    ∷ shown start ∷ shown retire
+    ∷ shown (fetch (op 14044098180716713349 9 Jump true false (31 ∷ []) none (some (10 ∷ [])) [] (bytes "x6" ∷ []) 55) 400) ∷ shown
+    (advance (some 17604763866506897701) 400) ∷ shown (capacity 0 65)
+    ∷ shown (fetch (op 17604763866506897701 2 Alu false false (bytes "sw x1") none none [] [] 204) 400) ∷ shown (view entry-stages) ∷
+    shown (text (stage-name 0) 200)
     ∷ shown start ∷ shown (advance none 400)
-    ∷ shown (fetch (op 56 4 Multiply false false (bytes "jal x6") (some (bytes "page fault")) (some (bytes "sixteen-bytes-ok"))
-    (bytes "x1" ∷ bytes "x4" ∷ bytes "x0" ∷ bytes "sixteen-bytes-ok" ∷ []) (bytes "x0" ∷ bytes "x5" ∷ []) 166) 400)
+    ∷ shown (fetch (op 17604763866506897703 6 Divide false false (bytes "fadd x1") (some []) none [] [] 497) 400)
     ∷ shown start ∷ shown (advance none 400)
-    ∷ shown (fetch (op 60 5 Alu true true (32 ∷ 126 ∷ 92 ∷ 34 ∷ []) none (some (bytes "sixteen-bytes-ok")) (bytes "x2" ∷ [])
-    (bytes "x0" ∷ []) 18446744073709551614) 400)
-    ∷ shown start ∷ shown retire ∷ shown (advance none 400)
-    ∷ shown (fetch (op 65 1 Alu false false (bytes "xor x2") none none (bytes "x5" ∷ []) [] 910) 400)
+    ∷ shown (fetch (op 17604763866506897709 1 Alu false false (bytes "sw x2") none (some (bytes "x5")) (bytes "x1" ∷ []) (bytes "x5"
+    ∷ (10 ∷ []) ∷ []) 863) 400) ∷ shown (view resume-pc)
+    ∷ shown start
+    ∷ shown (fetch (op 17604763866506897709 0 Alu false false (bytes "beq x3") (some (bytes "page fault")) (some (97 ∷ 98 ∷ 127 ∷
+    [])) (bytes "x0" ∷ bytes "x4" ∷ bytes "x0" ∷ bytes "x1" ∷ bytes " x 1" ∷ bytes "x6" ∷ bytes "x3" ∷ bytes "x6" ∷ bytes "x6" ∷ [])
+    (bytes "x1" ∷ bytes "x2" ∷ bytes "x2" ∷ bytes "x7" ∷ bytes "x4" ∷ []) 637) 400) ∷ shown (text (slot-text (in-stage
+    18446744073709551615) (source 0)) 0) ∷ shown retire ∷ shown (text (row-disassembly 1) 7) ∷ shown (overlap true) ∷ shown (retry
+    (bytes "waiting")) ∷ shown (retry (bytes "waiting"))
+    ∷ shown (fetch (op 17604763866506897709 6 Store false false (bytes "? x2") none (some (bytes "x0")) (bytes "x0" ∷ bytes "x5" ∷
+    bytes "x5" ∷ bytes "x1" ∷ bytes "x1" ∷ bytes "x0" ∷ bytes "x5" ∷ bytes "c.0" ∷ bytes "x1" ∷ []) (bytes "x0" ∷ bytes " x 1" ∷ [])
+    739) 400) ∷ shown (view (trace 0)) ∷ shown (advance none 400)
+    ∷ shown (fetch (op 17604763866506897709 6 Alu false false (bytes "mul x0") none (some (bytes "sixteen-bytes-ok")) (bytes "x4" ∷
+    []) [] 1) 405) ∷ shown (text (slot-text (in-stage 1) disassembly) 7)
     ∷ shown start ∷ shown (advance none 400)
-    ∷ shown start ∷ shown retire ∷ shown (advance none 209) ∷ shown (advance none 400)
-    ∷ shown start ∷ shown retire ∷ shown (advance none 400)
-    ∷ shown start ∷ shown retire ∷ shown (advance (some 18446744073709551614) 400)
-    ∷ shown (fetch (op 18446744073709551614 7 Alu false false (bytes "   ") none none (bytes "x5" ∷ bytes "x2" ∷ bytes "x5" ∷
-    bytes "x2" ∷ []) (bytes "x0" ∷ bytes "x5" ∷ bytes "x1" ∷ []) 905) 400)
-    ∷ shown start ∷ shown (advance none 400)
-    ∷ shown (fetch (op 5 5 Store false false (bytes "xor x7") none (some (bytes "x5")) (bytes "x2" ∷ bytes "x5" ∷ bytes "x5" ∷
-    bytes "x5" ∷ bytes "x4" ∷ bytes "x5" ∷ bytes "x5" ∷ bytes "x3" ∷ []) (bytes "x5" ∷ bytes "x4" ∷ bytes "x3" ∷ bytes "a.0" ∷ [])
-    258) 399)
-    ∷ shown (fetch (op 5 13 Unknown false false (bytes "sub x6") none (some (bytes "x0")) (bytes "b.0" ∷ bytes "x4" ∷ []) (bytes "x0"
-    ∷ bytes "x5" ∷ bytes "x5" ∷ []) 663) 400)
-    ∷ shown start ∷ shown (advance none 400)
-    ∷ shown (fetch (op 18 5 Divide false false (bytes "add x4") none (some (bytes "x4")) (bytes "x1" ∷ bytes "x2" ∷ bytes "x4" ∷
-    bytes "x3" ∷ bytes "x4" ∷ bytes "x3" ∷ bytes "x0" ∷ bytes "x2" ∷ []) (bytes "x4" ∷ bytes "x4" ∷ bytes "x0" ∷ bytes "x1" ∷ [])
-    590) 400)
-    ∷ shown start ∷ shown (advance none 400)
-    ∷ shown start ∷ shown (advance none 400)
-    ∷ shown start ∷ shown (advance none 400)
-    ∷ shown start ∷ shown (retry (bytes "wwwwwwwwwwwwwwwwwwwwwwwwwwwwwwwwwwwwwwwwwwwwwwwwwwwwwwwwwwwwwwww")) ∷ shown (advance none
-    400)
-    ∷ shown start ∷ shown retire ∷ shown (advance none 400)
-    ∷ shown start ∷ shown (advance none 400)
-    ∷ shown (fetch (op 23 3 Alu false false (bytes "xor x4") none (some (bytes "x5")) (bytes "x3" ∷ bytes "x2" ∷ []) (bytes "x5" ∷
-    bytes "sixteen-bytes-ok" ∷ (31 ∷ []) ∷ []) 0) 400)
-    ∷ shown (fetch (op 23 2 Store false true (bytes "bbbbbbbbbbbbbbbbbbbbbbbbbbbbbbbbbbbbbbbbbbbbbbbbbbbbbbbbbbbbbbbb") none (some
-    []) (bytes "x5" ∷ bytes "x3" ∷ bytes "x0" ∷ []) [] 998) 400) ∷ shown (text (slot-text (in-unit 0) destination) 0)
-    ∷ shown start ∷ shown (advance none 400)
-    ∷ shown start ∷ shown (advance none 400)
-    ∷ shown start ∷ shown retire ∷ shown (advance (some 52) 400)
-    ∷ shown (fetch (op 52 1 Alu false false (bytes "beq x3") none (some (bytes "sixteen-bytes-ok")) [] (bytes "x2" ∷ bytes " x 1" ∷
-    bytes "x1" ∷ []) 775) 400)
-    ∷ shown start ∷ shown (text (cell-label 31) 0) ∷ shown (advance none 400)
-    ∷ shown (fetch (op 12 10 Alu false false (bytes "lw x1") none none (bytes "x3" ∷ bytes "x0" ∷ []) [] 594) 400)
-    ∷ shown start ∷ shown (advance none 400)
-    ∷ shown (fetch (op 22 0 Alu false false (bytes "ecall x3") none (some (bytes "shown")) (bytes "x0" ∷ bytes "x0" ∷ bytes "x5" ∷
-    []) (bytes "x0" ∷ []) 173) 400)
-    ∷ shown start ∷ shown (advance none 400)
-    ∷ shown (fetch (op 23 6 Alu false false (bytes "mul x2") (some
-    (bytes "ffffffffffffffffffffffffffffffffffffffffffffffffffffffffffffffff")) (some (bytes "x0")) (bytes "x3" ∷ bytes "x1" ∷
-    bytes "x4" ∷ []) (bytes "x0" ∷ []) 501) 399)
-    ∷ shown (fetch (op 23 3 Alu false false (bytes "add x4") none (some (bytes "x4")) (bytes "x5" ∷ bytes "x1" ∷ bytes "x4" ∷ [])
-    (bytes "x4" ∷ bytes "x4" ∷ bytes "x2" ∷ []) 44) 400)
-    ∷ shown start ∷ shown (advance none 400)
-    ∷ shown (fetch (op 26 7 Alu false false (bytes "div x4") (some
-    (bytes "ffffffffffffffffffffffffffffffffffffffffffffffffffffffffffffffff")) (some (bytes "sixteen-bytes-ok")) (bytes "x5" ∷
-    bytes "x4" ∷ bytes "x4" ∷ bytes "x2" ∷ bytes "x1" ∷ []) [] 304) 400)
-    ∷ shown start ∷ shown (advance none 404)
-    ∷ shown start ∷ shown retire ∷ shown (advance none 400)
-    ∷ shown (fetch (op 33 11 Unknown false false (bytes "mul x2") none none (bytes "x4" ∷ []) [] 41) 400)
-    ∷ shown start ∷ shown (text (slot-text (in-queue 1) destination) 0) ∷ shown retire ∷ shown (advance none 400)
-    ∷ shown (fetch (op 44 9 FloatingPoint false false (bytes "fadd x5") none (some (bytes "x0")) (bytes "x0" ∷ []) (bytes "x0" ∷ [])
-    754) 400)
-    ∷ shown start ∷ shown (retry (bytes "wwwwwwwwwwwwwwwwwwwwwwwwwwwwwwwwwwwwwwwwwwwwwwwwwwwwwwwwwwwwwwww")) ∷ shown (advance none
-    400)
-    ∷ shown (fetch (op 22 18446744073709551614 Alu false false (bytes "add x1") none none (bytes "x3" ∷ bytes "x5" ∷ []) [] 560) 400)
-    ∷ shown start ∷ shown retire ∷ shown (advance none 273) ∷ shown (advance (some 56) 400)
-    ∷ shown (fetch (op 56 1 Divide false false (bytes "mul x4") none (some (bytes "x4")) (bytes "x2" ∷ bytes "x1" ∷ bytes "x5" ∷ [])
-    (bytes "x4" ∷ []) 346) 400)
-    ∷ shown start ∷ shown (advance none 400)
-    ∷ shown (fetch (op 55 1 Alu false false (bytes "sub x1") none (some (bytes "c.0")) ([] ∷ bytes "x2" ∷ bytes "sixteen-bytes-ok" ∷
-    bytes "x1" ∷ bytes "x3" ∷ bytes "x0" ∷ bytes "x3" ∷ bytes "x5" ∷ []) (bytes "c.0" ∷ bytes "x0" ∷ bytes "x1" ∷ bytes "x5" ∷ [])
-    736) 400)
-    ∷ shown start ∷ shown retire ∷ shown (advance none 400)
-    ∷ shown (fetch (op 56 14 FloatingPoint false false (bytes "nop x1") none (some (bytes "x3")) (bytes "x4" ∷ bytes "x5" ∷
-    bytes "x1" ∷ []) (bytes "x3" ∷ []) 797) 400)
-    ∷ shown start ∷ shown (advance none 400)
-    ∷ shown (fetch (op 63 6 Multiply false true (bytes "jal x3") none (some (bytes "x5")) (bytes "x2" ∷ bytes "x1" ∷ []) (bytes "x5"
-    ∷ bytes "x3" ∷ bytes "d.0" ∷ []) 637) 400)
-    ∷ shown start ∷ shown (advance none 400)
-    ∷ shown (fetch (op 69 1 Divide false false (bytes "beq x0") (some []) (some []) (bytes "x2" ∷ bytes "x0" ∷ bytes "x3" ∷ [])
-    (bytes "x4" ∷ bytes "x5" ∷ []) 191) 400)
-    ∷ shown start ∷ shown retire ∷ shown (advance none 400)
-    ∷ shown start ∷ shown (retry (bytes "waiting")) ∷ shown (advance none 400)
-    ∷ shown start ∷ shown (retry (bytes "waiting")) ∷ shown (advance none 400)
-    ∷ shown start ∷ shown retire ∷ shown (advance (some 6705063858948551751) 400)
-    ∷ shown (fetch (op 6705063858948551751 15 Alu false false
-    (bytes "~~~~~~~~~~~~~~~~~~~~~~~~~~~~~~~~~~~~~~~~~~~~~~~~~~~~~~~~~~~~~~~~") none (some (bytes "shown")) (bytes "x1" ∷ bytes "x3" ∷
-    bytes "x0" ∷ bytes "x2" ∷ []) (bytes "x1" ∷ bytes "x5" ∷ []) 481) 400)
-    ∷ shown start ∷ shown retire ∷ shown (advance (some 1) 400)
-    ∷ shown (fetch (op 1 12 Divide false false (bytes "sw x7") none none (bytes "x4" ∷ []) [] 902) 400)
-    ∷ shown start ∷ shown retire ∷ shown (advance none 400)
-    ∷ shown (fetch (op 13 18446744073709551614 Store false false (bytes "beq x5") none (some (bytes "x5")) (bytes "x2" ∷ bytes "x2" ∷
-    bytes "x1" ∷ []) (bytes "x5" ∷ []) 283) 400)
-    ∷ shown start ∷ shown (advance none 400)
+    ∷ shown start ∷ shown (cell 0 0 400) ∷ shown retire ∷ shown (text (operand-register 3 0) 200) ∷ shown (text (station-label 2) 0)
+    ∷ shown (resolve 112) ∷ shown (retry (bytes "zzzzzzzzzzzzzzzzzzzzzzzzzzzzzzzzzzzzzzzzzzzzzzzzzzzzzzzzzzzzzzzzz")) ∷ shown
+    (advance none 400)
+    ∷ shown (fetch (op 17604763866506897715 14 Divide false false (bytes "lw x1") none (some (bytes "x2")) (bytes "x6" ∷ bytes "x6" ∷
+    bytes "x5" ∷ []) (bytes "x2" ∷ []) 303) 400)
+    ∷ shown start ∷ shown (resolve 13683309356205069886) ∷ shown (advance none 400) ∷ shown (text (unit-name 1) 3) ∷ shown (text
+    (stage-name 0) 2) ∷ shown (text (stage-name 3) 2)
+    ∷ shown start ∷ shown (fault (bytes "waiting")) ∷ shown retire ∷ shown (advance none 400) ∷ shown (resolve 124) ∷ shown (text
+    (cell-label 7) 0)
     ∷ rest ∷ []
 
 abbrev numbers : List ℕ
 numbers =
-    699228687512746671 ∷ 561191712654685650 ∷ 1509765583851400142 ∷ 1937030687671585237 ∷ 77273191247612373 ∷ 1736977733571952290
-    ∷ 182893713189546033 ∷ 296712907459997139 ∷ 915757592372604603 ∷ 745532783058458506 ∷ 2277157287166290444 ∷ 1451095189876520030
-    ∷ 2146406259940641392 ∷ 474383119893301387 ∷ 1783112653565796478 ∷ 379098985225076478 ∷ 1701250481826300533 ∷ 128074331373495686
-    ∷ 1917472299064781314 ∷ 797279451605967385 ∷ 407152387128921125 ∷ 799509888356111927 ∷ 1227283423426021951 ∷ 317854777782253820
-    ∷ 1244917763542286523 ∷ 1356064740698340134 ∷ 1272061205660427263 ∷ 1766846181543581955 ∷ 1463402064574006756
-    ∷ 2104022412839956829 ∷ 1140823552106419258 ∷ 1941744969427851490 ∷ 1880957414503457619 ∷ 1174573113196638015
-    ∷ 11953880575370636 ∷ 453206822494765555 ∷ 1140627653640739994 ∷ 682282991145362772 ∷ 1251665290361530825 ∷ 2115078059600559977
-    ∷ 2134005928070652348 ∷ 397062076296126360 ∷ 1043858877536969456 ∷ 1848887019438531627 ∷ 2095200786434593158
-    ∷ 1578997927676369200 ∷ 761707616688783893 ∷ 30826451626460494 ∷ 1040645761538386520 ∷ 790203174380869958 ∷ 2275677238971502144
-    ∷ 1595162285940041019 ∷ 957449716151902124 ∷ 429822651312365915 ∷ 1263241682535254520 ∷ 1847134481857941430
-    ∷ 1740489338367221236 ∷ 1799875943897867762 ∷ 1471121949285378210 ∷ 533958416007135256 ∷ 899568995580792562
-    ∷ 1912149744685945107 ∷ 12945701632253918 ∷ 1856831287245748198 ∷ 511625820425584916 ∷ 1754382121441512631 ∷ 583420175446665058
-    ∷ 1300153644824477008 ∷ 2182852554809284997 ∷ 62729574120461310 ∷ 1955713510105741768 ∷ 755373227564254360 ∷ 382256516399892304
-    ∷ 2022195396904338588 ∷ 1214599873897839384 ∷ 2008070277535431527 ∷ 552919858629699786 ∷ 641361297033514976 ∷ 425960354030067408
-    ∷ 753249592468865158 ∷ 1674515149357230635 ∷ 1677622633915243675 ∷ 2092582551468726249 ∷ 994265560923418251
-    ∷ 1178137118543762074 ∷ 1164582943530012125 ∷ 1148452030430687997 ∷ 1850681835655846243 ∷ 293632688370594387
-    ∷ 1012407428363842002 ∷ 2045472825637796427 ∷ 1761489219968591622 ∷ 2014136723959909427 ∷ 1855063971843329555
-    ∷ 388092358680727937 ∷ 1119311266017021192 ∷ 254381397432694601 ∷ 1186608433080884247 ∷ 234003339780120756 ∷ 679429776220979266
-    ∷ 71367847206420162 ∷ 39049132955563952 ∷ 1458544868998785243 ∷ 1479613049246772647 ∷ 1516185163351676918 ∷ 1444487056860367561
-    ∷ 1866020172664974858 ∷ 82720388979302583 ∷ 1828380899747605613 ∷ 1739210570252756724 ∷ 229437357397205742 ∷ 2296576842439482133
-    ∷ 944674768443884972 ∷ 1913907231727816440 ∷ 752079260233734538 ∷ 1546016319606922211 ∷ 779401161351760566 ∷ 591890121565488076
-    ∷ 2129384630206921649 ∷ 2216971256675050247 ∷ 1515738425475737231 ∷ 1184420178224846092 ∷ 2276863749760741263
-    ∷ 543326592469464553 ∷ 1234306805810466443 ∷ 121868370842927804 ∷ 1510491602552943962 ∷ 1915247633049746891 ∷ 193396166618506934
-    ∷ 656916728174082059 ∷ 1680493300856724827 ∷ 1159393297925337693 ∷ 125869675416198218 ∷ 2134138034474069433
-    ∷ 1826336656740777449 ∷ 1509302440260506774 ∷ 298142723599782517 ∷ []
+    185632363686609594 ∷ 368788621848611977 ∷ 1935147954061115305 ∷ 163362310302294892 ∷ 115651384979059323 ∷ 115064886525020632
+    ∷ 1682010717191562651 ∷ 127705995741533392 ∷ 457392109134420387 ∷ 1062155952602585830 ∷ 1444789681043088294 ∷ 762367157113112417
+    ∷ 1327924373992510327 ∷ 588440696991319704 ∷ 1339978984754984396 ∷ 1339978984754984396 ∷ 2274428941616036834
+    ∷ 1339978984754984396 ∷ 2274428941616036834 ∷ 895029903073485248 ∷ 606788278206799259 ∷ 1686144572307145854
+    ∷ 1589726638245551808 ∷ 410926707145370154 ∷ 993291495006821048 ∷ 1174111099621175883 ∷ 889920388435873563 ∷ 1347803160298664170
+    ∷ 1055675837301581422 ∷ 1011615230811331733 ∷ 1932785480497613527 ∷ 2297156783225545931 ∷ 1605631409572766963
+    ∷ 2122626405260378291 ∷ 551945063439965240 ∷ 36500473678198456 ∷ 1047440597541222332 ∷ 833393907898313098 ∷ 1280423493709584271
+    ∷ 266867947177874571 ∷ 50513524200792860 ∷ 1791157834904884611 ∷ 321860507420760871 ∷ 232942235839024516 ∷ 154738437734442516
+    ∷ 103211825601372947 ∷ 1712170580608642730 ∷ 103211825601372947 ∷ 904979521341232335 ∷ 1938764000270535625 ∷ 1061916770815137693
+    ∷ 173956702545540650 ∷ 1358739463446341849 ∷ 1040094189960831744 ∷ 1197977502335587702 ∷ 1802397054559418352
+    ∷ 905187660659253636 ∷ 419842458027777146 ∷ 2020540522045535896 ∷ 647541031978179751 ∷ 1803669247138536811 ∷ 1592732226547762308
+    ∷ 1655985656258518447 ∷ 2107731120282834275 ∷ 213110873649564509 ∷ 2151943787076066789 ∷ 474887177316995231
+    ∷ 2220581806643234460 ∷ 1604084316641988393 ∷ 436805058939401485 ∷ 1343363244677687949 ∷ 1167129418010109476
+    ∷ 1577657685854266428 ∷ 354728420044605828 ∷ 291666213756274212 ∷ 1715767300985164448 ∷ 2011982495434257282
+    ∷ 1452392464150447019 ∷ 1316979275557105830 ∷ 1802641357649097355 ∷ 1586383235409101019 ∷ 1825435924011753822
+    ∷ 1282144947571341404 ∷ 1825435924011753822 ∷ 893154674540338168 ∷ 893154674540338168 ∷ 732869200677149210 ∷ 847750661317299841
+    ∷ 2074516423500066245 ∷ 2059218064985973996 ∷ 1982244477653207880 ∷ 69179087126834695 ∷ 238108869277565536 ∷ 999189498251112189
+    ∷ 1671595916578926796 ∷ 1465721575176217336 ∷ 1742540917505990752 ∷ 388956918289783569 ∷ 13784521042042078 ∷ 788407965537228797
+    ∷ 1656962265299881887 ∷ 160497876031450602 ∷ 1963417765116051698 ∷ 1536361460376489685 ∷ 1883268842926705792
+    ∷ 436347397019752782 ∷ 1061391551819162925 ∷ 942007779398640600 ∷ 2255091965408987239 ∷ 387045881162156596 ∷ 887008513369866339
+    ∷ 310481000025098941 ∷ 891230649718410426 ∷ 359347766353673192 ∷ 1799873171440677336 ∷ []
 
 abbrev pub case-31 : Case
 case-31 = case-of shape 0 400 steps numbers
