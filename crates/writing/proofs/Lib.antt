@@ -1,0 +1,5 @@
+pub mod Opening
+pub mod Gathering
+pub mod Others
+pub mod Reasons
+pub mod Trying
