@@ -51,7 +51,7 @@ module _ (n : ℕ) (g : Legend) where
       (record { sources = a .0 .sources; destinations = a .0 .destinations; pending = a .0 .pending }, knows-slots l (a .1))
 
 -- Any legend will do.
-blank : Legend
+pub blank : Legend
 blank = record { carried = λ p. nothing-carried; names = [] }
 
 -- What the model does to the units keeps it.

@@ -1,3 +1,4 @@
 pub mod Parts
 pub mod Knowing
 pub mod Counting
+pub mod Vacancy

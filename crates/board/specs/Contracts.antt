@@ -6,17 +6,18 @@ use mathlib.Core.Logic.{_⊎_}
 use mathlib.Core.Option.{Option, none, some}
 use mathlib.Core.List.{List, [], _∷_, _++_, map}
 use lib.Dec.{eqb}
-use lib.ListN.{length, replicate}
+use lib.ListN.{length, getD, replicate}
 use Rattle.laws.specs.Lists.{All, count, elem}
 use Rattle.model.specs.Op.{Op}
 use Rattle.model.specs.Timeline.{Row}
+use Rattle.model.specs.Units.{unit-at}
 use Rattle.model.specs.State.{no-stats, marks, offer-of, front-of, log-of, State, state}
 use Rattle.model.specs.Write.{open-cycle}
 use Rattle.model.specs.Issue.{complete-at, redirected, tick-execute, start-ready, read-operands}
 use Rattle.model.specs.Scoreboard.{closed, clear-status, invite}
 use Rattle.registers.specs.Look.{Queued as Along}
 use Rattle.flight.specs.declared.Queued.{Queued}
-use Rattle.flight.specs.View.{viewOperands, viewQueue, entries}
+use Rattle.flight.specs.View.{Legend, viewOperands, viewQueue, entries}
 use Rattle.stalls.specs.declared.Trace.{Trace}
 use Rattle.stalls.specs.View.{listed}
 use Rattle.stalls.specs.Contracts.{NoRedirect}
@@ -52,6 +53,11 @@ pub record Names (ps : List ℕ) (t : Trace) : Type 0 where
 abbrev pub Named : List ℕ → Board → Type 0
 Named ps b = All (Names ps) (listed (b .log .traces))
 
+-- A unit that is free has no place of the pool, unless its result is on offer.
+abbrev pub Vacant : Board → Type 0
+Vacant b =
+    (g : Legend) (i : ℕ) → unit-at (viewUnits g (b .units)) i .busy ≡ false → (i ≡ b .offer .writing) ⊎ (getD (places (b .units)) i 80 ≡ 80)
+
 -- While a cycle is open: few waits, no redirect among them, all of units; and nothing has left yet.
 pub record Open (b : Board) : Type 0 where
   pub few : b .log .traces .len ≤ 64
@@ -76,6 +82,7 @@ pub record Still (b r : Board) : Type 0 where
   pub queue : queue-places r ≡ queue-places b
   pub gone : r .gone ≡ b .gone
   pub waits : listed (r .log .traces) ≡ listed (b .log .traces)
+  pub vacant : Vacant b → Vacant r
   pub looks : (x : Frame) → Looks x b → Looks x r
   pub known : r .claims .len ≡ b .claims .len
 
@@ -103,6 +110,7 @@ pub record Drops (b r : Board) (f : State → State) : Type 0 where
   pub queue : queue-places r ≡ []
   pub gone : r .gone ≡ b .gone
   pub waits : listed (r .log .traces) ≡ listed (b .log .traces)
+  pub vacant : Vacant r
   pub known : r .claims .len ≡ b .claims .len
 
 -- An idle board of these units.
@@ -117,6 +125,7 @@ pub record Fresh (us : Units) (entry : ℕ) (r : Board) : Type 0 where
   pub queue : entries (r .queue) ≡ []
   pub gone : r .gone ≡ 80
   pub waits : listed (r .log .traces) ≡ []
+  pub vacant : Vacant r
   pub known : r .claims .len ≡ 0
 
 -- The cycle is open, and nothing is listed yet.
@@ -127,6 +136,8 @@ pub record Opens (b r : Board) : Type 0 where
   pub queue : queue-places r ≡ queue-places b
   pub gone : r .gone ≡ 80
   pub waits : listed (r .log .traces) ≡ []
+  pub vacant : Vacant b → Vacant r
+  pub offer : r .offer ≡ b .offer
   pub looks : (x : Frame) → Looks x b → Looks x r
   pub known : r .claims .len ≡ b .claims .len
 
@@ -148,6 +159,8 @@ pub record Completes (b : Board) (i : ℕ) (r : Board) : Type 0 where
   pub waits : listed (r .log .traces) ≡ listed (b .log .traces)
   pub apart : Apart b → Apart r
   pub named : Named (places (b .units)) b → Named (unit-places r) r
+  pub vacant : i ≡ b .offer .writing → Vacant b → Vacant r
+  pub offer : r .offer .writing ≡ 64
   pub looks : (x : Frame) → Looks x b → Looks x r
   pub known : r .claims .len ≡ b .claims .len
 
@@ -158,6 +171,8 @@ pub record Closes (b r : Board) : Type 0 where
   pub waits : listed (r .log .traces) ≡ listed (b .log .traces)
   pub apart : Apart b → Apart r
   pub named : Open b → Named (unit-places r) r
+  pub vacant : Vacant b → Vacant r
+  pub offer : 64 ≤ r .offer .writing
   pub looks : (x : Frame) → Looks x b → Looks x r
   pub known : r .claims .len ≡ b .claims .len
 
@@ -171,6 +186,8 @@ pub record Redirects (b r : Board) (target : Option ℕ) : Type 0 where
       → viewBoard (with-frame-rows (redirected target (clear-status (viewBoard x b)) .log .rows) x) r
       ≡ redirected target (clear-status (viewBoard x b))
   pub step : Advances 1 b r
+  pub vacant : Vacant b → Vacant r
+  pub offer : r .offer ≡ b .offer
   pub stays : target ≡ none → (x : Frame) → Looks x b → Looks x r
   pub dropped : (t : ℕ) → target ≡ some t → entries (r .queue) ≡ []
   pub known : r .claims .len ≡ b .claims .len

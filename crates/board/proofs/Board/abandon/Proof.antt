@@ -17,6 +17,7 @@ use Rattle.board.specs.View.{viewBoard}
 use Rattle.board.specs.Contracts.{queue-places}
 use Rattle.board.proofs.Parts.{state-by, claims-kept, names-kept, log-names}
 use Rattle.board.proofs.Knowing.{knows-kept, knows-map, clear-knows}
+use Rattle.board.proofs.Vacancy.{none-placed}
 use borrow.Author.Needs.{needs}
 use Rattle.board.proofs.Board.abandon.Statement.{statement}
 use Rattle.board.proofs.Board.abandon.Tie as tie
@@ -66,6 +67,7 @@ returns c =
       queue = ap (map (λ (x : Queued). x .place)) (f .entries);
       gone = refl;
       waits = refl;
+      vacant = none-placed (d .before .before .clear .result) (b .units .len) (e .places) 64;
       known = k;
     }
 

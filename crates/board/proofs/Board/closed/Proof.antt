@@ -1,5 +1,6 @@
 use mathlib.Core.Path.{refl, sym, ap, _∙_}
 use mathlib.Core.List.{[], _∷_}
+use native.Mathlib.Omega.{arith}
 use Rattle.model.specs.Issue.{complete-at, complete-offer, complete-write}
 use Rattle.model.specs.Scoreboard.{close-cycle, closed}
 use Rattle.registers.proofs.Owing.{claimed-some, claimed-none}
@@ -35,6 +36,8 @@ returns c =
       waits = refl;
       apart = λ a. a;
       named = λ o. names-more (places (b .units)) _ (more-left (places (b .units)) (b .gone ∷ [])) (listed (b .log .traces)) (o .named);
+      vacant = λ v. v;
+      offer = c .if1 .taken;
       looks = λ x. looks-kept x b _ refl (alike-self (b .queue));
       known = refl;
     }
@@ -69,6 +72,8 @@ returns-2 c =
       waits = e .waits;
       apart = e .apart;
       named = λ o. e .named (o .named);
+      vacant = e .vacant refl;
+      offer = omega (arith, e .offer);
       looks = λ x l. e .looks x (looks-kept x b _ refl (alike-self (b .queue)) l);
       known = e .known;
     }

@@ -20,6 +20,7 @@ use Rattle.board.specs.Contracts.{queue-places}
 use Rattle.board.proofs.Parts.{state-by, place-inside, place-at, unit-seen, claims-kept, released-length, names-kept, log-names, and-joined, alike-self, looks-kept}
 use Rattle.board.proofs.Knowing.{knows-kept, knows-map, knows-modify, clear-knows, without-waits-knows}
 use Rattle.board.proofs.Counting.{names-more, left-apart, left-more}
+use Rattle.board.proofs.Vacancy.{Empty, empty-left}
 use borrow.Author.Needs.{needs}
 use Rattle.board.proofs.Board.completed.Statement.{statement}
 use Rattle.board.proofs.Board.completed.Tie as tie
@@ -94,6 +95,8 @@ returns c =
       waits = refl;
       apart = left-apart b _ (place-inside (ok .units) (s .pre .1)) (e .places) (place-at (ok .units) _ (s .pre .1)) refl;
       named = names-more (places (b .units)) _ (left-more (places (b .units)) (place-inside (ok .units) (s .pre .1)) (e .places) (place-at (ok .units) _ (s .pre .1))) (listed (b .log .traces));
+      vacant = λ q v. empty-left (ok .units) (s .pre .1) e 64 (subst (Empty (b .units)) (sym q) v);
+      offer = refl;
       looks = λ x. looks-kept x b _ k (alike-self (b .queue));
       known = k;
     }

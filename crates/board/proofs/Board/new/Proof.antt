@@ -11,6 +11,7 @@ use Rattle.stalls.specs.Contracts.{Known}
 use Rattle.bank.specs.View.{slots, UnitKnows}
 use Rattle.board.specs.View.{boards}
 use Rattle.board.proofs.Parts.{state-by, no-status}
+use Rattle.board.proofs.Vacancy.{none-placed}
 use borrow.Author.Needs.{needs}
 use Rattle.board.proofs.Board.new.Statement.{statement}
 use Rattle.board.proofs.Board.new.Tie as tie
@@ -61,6 +62,7 @@ returns c =
       queue = q .entries;
       gone = refl;
       waits = l .waits;
+      vacant = none-placed (s .args .units) (s .args .units .len) (s .pre .1 .0) 64;
       known = k;
     }
 

@@ -15,6 +15,7 @@ use Rattle.board.specs.View.{log-frame, boards}
 use Rattle.board.specs.Contracts.{queue-places}
 use Rattle.board.proofs.Parts.{state-by, units-kept, alike-hazards, looks-kept}
 use Rattle.board.proofs.Knowing.{knows-kept, knows-map, clear-hazard-knows}
+use Rattle.board.proofs.Vacancy.{clear-hazard-busy, empty-map}
 use borrow.Author.Needs.{needs}
 use Rattle.board.proofs.Board.opened.Statement.{statement}
 use Rattle.board.proofs.Board.opened.Tie as tie
@@ -59,6 +60,8 @@ returns c =
           ap (map (λ (x : Queued). x .place)) (f .entries) ∙ map-map (λ (x : Queued). x .place) (hazardous Nothing) (entries (b .queue));
       gone = refl;
       waits = h .waits;
+      vacant = empty-map (b .units) clear-hazard clear-hazard-busy e (b .offer .writing);
+      offer = refl;
       looks = λ x. looks-kept x b _ refl (alike-hazards (b .queue) f);
       known = refl;
     }

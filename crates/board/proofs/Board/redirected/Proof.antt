@@ -108,6 +108,8 @@ returns c =
                 (All-append (Names (unit-places b)) (listed (b .log .traces)) (redirect-trace ∷ []) a
                 (record { mine = inl refl; other = inl refl }, tt));
           };
+      vacant = λ v. v;
+      offer = refl;
       stays = λ e. none-some _ (sym e);
       dropped = λ t e. f .entries;
       known = refl;
@@ -143,6 +145,8 @@ returns-2 c =
             apart = λ a. a;
             named = λ a. a;
           };
+      vacant = λ v. v;
+      offer = refl;
       stays = λ e x. looks-kept x b _ refl (alike-self (b .queue));
       dropped = λ t e. none-some t e;
       known = refl;

@@ -11,6 +11,7 @@ use Rattle.bank.specs.View.{viewUnits}
 use Rattle.board.specs.View.{boards}
 use Rattle.board.specs.Contracts.{queue-places}
 use Rattle.board.proofs.Parts.{state-by, alike-self, looks-kept}
+use Rattle.board.proofs.Vacancy.{empty-back}
 use Rattle.board.proofs.Knowing.{knows-kept, knows-modify, busy-knows}
 use Rattle.board.proofs.Board.retry.Statement.{statement}
 use Rattle.board.proofs.Board.retry.Tie as tie
@@ -52,6 +53,7 @@ returns c =
             queue = refl;
             gone = refl;
             waits = refl;
+            vacant = empty-back (ok .units) (ok .offer (s .pre .1 .0)) e 64;
             looks = λ x. looks-kept x b _ refl (alike-self (b .queue));
             known = refl;
           };

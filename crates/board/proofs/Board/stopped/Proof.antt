@@ -52,6 +52,7 @@ returns c =
       queue = e .queue;
       gone = e .gone;
       waits = e .waits;
+      vacant = e .vacant;
       known = e .known;
     }
 

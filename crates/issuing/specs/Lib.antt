@@ -1,0 +1,2 @@
+pub mod Issues
+pub mod Steps
