@@ -99,6 +99,7 @@ pub record Starts (b r : Board) (f : State → State) : Type 0 where
   pub places : places (r .units) ≡ places (b .units)
   pub queue : queue-places r ≡ queue-places b
   pub begun : Open r
+  pub vacant : 64 ≤ b .offer .writing → Vacant b → Vacant r
   pub looks : (x : Frame) → Looks x b → Looks x r
   pub known : r .claims .len ≡ b .claims .len
 
@@ -196,6 +197,8 @@ pub record Redirects (b r : Board) (target : Option ℕ) : Type 0 where
 pub record Works (b r : Board) : Type 0 where
   pub is : (x : Frame) → viewBoard x r ≡ read-operands (start-ready (tick-execute (viewBoard x b)))
   pub step : Advances 64 b r
+  pub vacant : Vacant b → Vacant r
+  pub offer : r .offer ≡ b .offer
   pub looks : (x : Frame) → Looks x b → Looks x r
   pub known : r .claims .len ≡ b .claims .len
 

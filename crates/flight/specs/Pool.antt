@@ -1,9 +1,12 @@
 -- The pool: what a fetch writes to it, and what a place holds.
 use Prim.Native.Nat.{ℕ, _≤_}
 use mathlib.Core.Path.{_≡_}
-use mathlib.Core.Bool.{false, true}
+use mathlib.Core.Bool.{false, true, cond}
 use mathlib.Core.List.{List}
+use lib.Dec.{ltb}
 use lib.ListN.{length, getD, replicate}
+use Rattle.laws.specs.Lists.{All}
+use Rattle.laws.specs.Texts.{Text as Bytes}
 use Rattle.op.specs.declared.Text.{Text}
 use Rattle.op.specs.declared.Name.{Name}
 use Rattle.op.specs.declared.PipelineOp.{PipelineOp}
@@ -11,7 +14,7 @@ use Rattle.flight.specs.declared.pool.Decoded.{Decoded}
 use Rattle.flight.specs.declared.pool.Texts.{Texts}
 use Rattle.flight.specs.declared.pool.DecodedPool.{DecodedPool}
 use Rattle.flight.specs.declared.pool.TextPool.{TextPool}
-use Rattle.flight.specs.View.{Carried, viewCarried}
+use Rattle.flight.specs.View.{Carried, Legend, viewCarried}
 
 -- ── What a fetch writes ─────────────────────────────────────────────────────
 
@@ -52,6 +55,14 @@ all-texts p = p .items
 unfoldable pub held-at : DecodedPool → TextPool → ℕ → Carried
 held-at ds ts place = viewCarried (getD (ds .items) place no-decoded) (getD (ts .items) place no-texts)
 
+-- The legend of a pool and of the names held.
+abbrev pub legend : DecodedPool → TextPool → List Bytes → Legend
+legend ds ts ns = record { carried = held-at ds ts; names = ns }
+
+-- What it holds at a place; at place 80, that of no operation, nothing.
+unfoldable pub decoded-at : DecodedPool → ℕ → Decoded
+decoded-at ds place = cond (ltb place 80) (getD (ds .items) place no-decoded) no-decoded
+
 -- A text that is kept is one that a fetch takes: it fits its array.
 pub record TextsOk (t : Texts) : Type 0 where
   pub text : t .disassembly .len ≤ 64
@@ -63,3 +74,4 @@ pub record DecodedPoolOk (p : DecodedPool) : Type 0 where
 
 pub record TextPoolOk (p : TextPool) : Type 0 where
   pub size : length (p .items) ≡ 80
+  pub each : All TextsOk (p .items)

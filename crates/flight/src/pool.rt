@@ -7,7 +7,7 @@ use op::Text;
 ghost use mathlib.Core.Path.{_≡_};
 ghost use lib.ListN.{replicate};
 ghost use Rattle.laws.specs.Means.{Means};
-ghost use Rattle.flight.specs.Pool.{decoded-of, texts-of, no-decoded, no-texts, all-decoded, all-texts, DecodedPoolOk, TextPoolOk};
+ghost use Rattle.flight.specs.Pool.{decoded-of, texts-of, no-decoded, no-texts, all-decoded, all-texts, decoded-at, DecodedPoolOk, TextPoolOk};
 
 // Numbers of an operation that no decision of a cycle reads.
 pub struct Decoded {
@@ -74,6 +74,24 @@ impl DecodedPool {
             atomic: false,
         };
         DecodedPool { items: [d; 80] }
+    }
+
+    // The numbers at a place; place 80 is that of no operation.
+    pub fn at(self, place: u8) -> Decoded
+        requires { ⌜ DecodedPoolOk self ⌝ }
+        ensures { λ r. ⌜ r ≡ decoded-at self place ⌝ }
+    {
+        let at = place as usize;
+        if at < 80 {
+            return self.items[at];
+        }
+        Decoded {
+            address: 0,
+            length: 0,
+            predicted_next: 0,
+            payload: 0,
+            atomic: false,
+        }
     }
 }
 

@@ -13,6 +13,7 @@ use Rattle.board.specs.View.{log-frame, boards}
 use Rattle.board.specs.Contracts.{queue-places, Names}
 use Rattle.board.proofs.Parts.{state-by, units-kept, alike-self, looks-kept}
 use Rattle.board.proofs.Knowing.{knows-kept}
+use Rattle.board.proofs.Vacancy.{no-offer, empty-offered}
 use Rattle.cycle.proofs.Halves.{marked-knows, taken-knows, told-names, none-listed}
 use Rattle.cycle.proofs.offer_found.Statement.{statement}
 use Rattle.cycle.proofs.offer_found.Tie as tie
@@ -70,6 +71,7 @@ returns c =
                 (told-names (places (b .units)) (λ p h. omega arith) l (subst (All (Names (places (b .units)))) (sym none) tt));
             gone = s .pre .1 .1 .1;
           };
+      vacant = λ h v. empty-offered (b .units) (turned-away tr) (tr .found) e (no-offer (ok .units) h (tr .found) v);
       looks = λ x. looks-kept x b _ refl (alike-self (b .queue));
       known = refl;
     }

@@ -1,4 +1,5 @@
-use mathlib.Core.Path.{ap, _∙_}
+use Prim.Native.Nat.{_≤_}
+use mathlib.Core.Path.{sym, subst, ap, _∙_}
 use Rattle.model.specs.Write.{writable-unit, offer-found, start-cycle}
 use Rattle.board.specs.View.{viewBoard}
 use borrow.Author.Needs.{needs}
@@ -29,6 +30,7 @@ returns c =
       places = e .places ∙ o .places;
       queue = e .queue ∙ o .queue;
       begun = e .begun;
+      vacant = λ h v. e .vacant (subst (λ p. 64 ≤ p .writing) (sym (o .offer)) h) (o .vacant v);
       looks = λ x l. e .looks x (o .looks x l);
       known = e .known ∙ o .known;
     }

@@ -13,6 +13,7 @@ use Rattle.board.specs.View.{known-names, log-frame, boards}
 use Rattle.board.specs.Contracts.{queue-places, Names}
 use Rattle.board.proofs.Parts.{state-by, units-kept, alike-self, looks-kept}
 use Rattle.board.proofs.Knowing.{knows-kept}
+use Rattle.board.proofs.Vacancy.{empty-stepped}
 use Rattle.board.proofs.Counting.{more-left}
 use Rattle.cycle.proofs.Halves.{stepped-knows, told-names, same-apart, read-traces}
 use borrow.Author.Needs.{needs}
@@ -64,6 +65,8 @@ returns c =
                 told-names (places us ++ b .gone ∷ []) (more-left (places us) (b .gone ∷ [])) l
                 (subst (λ ps. All (Names (ps ++ b .gone ∷ [])) (listed (b .log .traces))) (sym (e .places)) a);
           };
+      vacant = empty-stepped (b .units) e (b .offer .writing);
+      offer = refl;
       looks = λ x. looks-kept x b _ refl (alike-self (b .queue));
       known = refl;
     }
