@@ -1,0 +1,5 @@
+pub mod Backward
+pub mod Held
+pub mod Walks
+pub mod Stages
+pub mod Questions
