@@ -1,17 +1,23 @@
 -- The units read and written by place, and the loops that change each.
 use Prim.Native.Nat.{ℕ, _+_, _≤_, _<_}
 use mathlib.Core.Path.{_≡_, refl, sym, ap, _∙_}
+use mathlib.Core.Bool.{Bool, true, false, cond, not, _||_}
 use mathlib.Core.List.{List, [], _∷_, map, map-map}
+use native.Mathlib.Nat.{zero-add}
 use native.Mathlib.Omega.{arith}
+use lib.Dec.{eqb}
 use lib.ListN.{length, getD, set, take, drop, replicate, length-set}
 use lib.Seq.{set-getD}
-use Rattle.laws.specs.Lists.{modify}
-use Rattle.laws.proofs.Slices.{Seen, slice-end, seen-getD, view-length, view-next, view-set, view-modify, All-getD, All-set}
+use borrow.Author.Tests.{ne-eqb}
+use Rattle.laws.specs.Lists.{any, count, modify}
+use Rattle.laws.proofs.Slices.{Seen, take-map, slice-end, seen-getD, view-length, view-next, view-set, view-modify, All-getD, All-set}
+use Rattle.laws.proofs.Maps.{any-map}
 use Rattle.laws.proofs.Map.{Mapped, mapped-first, mapped-read, mapped-next, changed-map}
-use Rattle.model.specs.Units.{FunctionalUnit, tick, begin, read-one}
+use Rattle.model.specs.Units.{FunctionalUnit, is-busy, tick, begin, read-one}
 use Rattle.flight.specs.View.{Legend}
 use Rattle.units.specs.declared.Unit.{Unit as Slot}
 use Rattle.units.specs.View.{viewUnit, UnitOk, UnitIs}
+use Rattle.units.specs.Lent.{busy-count}
 use Rattle.bank.specs.declared.Units.{Units}
 use Rattle.bank.specs.View.{viewUnits, places, UnitsOk, UnitsAre}
 
@@ -63,6 +69,25 @@ module _ {us : Units} (ok : UnitsOk us) where
 pub units-end : (g : Legend) (us : Units) {i : ℕ} → us .len ≤ i → drop i (viewUnits g us) ≡ []
 unfolding viewUnits
 units-end g us h = slice-end (map (viewUnit g) (us .items)) h
+
+-- ── Busy ones ───────────────────────────────────────────────────────────────
+
+module _ {A : Type 0} (p : A → Bool) where
+  -- One passes where the count is not 0.
+  counts-any : (l : List A) → not (eqb (count p l) 0) ≡ any p l
+  unfolding any count
+  counts-any [] = refl
+  counts-any (x ∷ xs) = go (p x) (counts-any xs)
+    where
+      go : (b : Bool) → not (eqb (count p xs) 0) ≡ any p xs → not (eqb (cond b 1 0 + count p xs) 0) ≡ (b || any p xs)
+      go true h = ap not (ne-eqb (1 + count p xs) 0 (λ e. omega arith))
+      go false h = ap (λ n. not (eqb n 0)) (zero-add (count p xs)) ∙ h
+
+pub busy-any : (g : Legend) (us : Units) → not (eqb (busy-count (take (us .len) (us .items))) 0) ≡ any is-busy (viewUnits g us)
+unfolding viewUnits viewUnit is-busy busy-count
+busy-any g us =
+    counts-any (λ (u : Slot). u .busy) (take (us .len) (us .items)) ∙ sym (any-map (viewUnit g) (λ (u : Slot). u .busy) is-busy (λ u. refl) (take (us .len) (us .items)))
+    ∙ ap (any is-busy) (sym (take-map (viewUnit g) (us .len) (us .items)))
 
 -- ── Each unit ───────────────────────────────────────────────────────────────
 

@@ -170,16 +170,8 @@ impl Units {
         requires { ⌜ UnitsOk self ⌝ }
         ensures { λ r. ⌜ ((g : Legend) → r ≡ any is-busy (viewUnits g self)) ⌝ }
     {
-        let n = self.len;
-        let mut i: usize = 0;
-        while i < n {
-            let u = self.items[i];
-            if u.busy {
-                return true;
-            }
-            i += 1;
-        }
-        false
+        let items = self.items;
+        units::lent::busy_first(items, self.len) != 0
     }
 
     // free_unit, the lowest of the kind; 64 for none.

@@ -1,3 +1,5 @@
 pub mod Steps
 pub mod Pending
 pub mod Cases
+pub mod Walks
+pub mod OldestIs

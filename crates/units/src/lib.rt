@@ -9,6 +9,8 @@ use registers::Waits;
 
 // The waits of a unit.
 pub mod waits;
+// Units in a row.
+pub mod lent;
 
 ghost use mathlib.Core.Path.{_≡_};
 ghost use mathlib.Core.Bool.{not, _&&_};
