@@ -1,0 +1,15 @@
+pub mod Does
+pub mod Fits
+pub mod Legends
+pub mod Answers
+pub mod Boards
+pub mod Naming
+pub mod Accepting
+pub mod Fetches
+pub mod Dropping
+pub mod Fresh
+pub mod Recorded
+pub mod Advancing
+pub mod Working
+pub mod Stopping
+pub mod Capacity

@@ -1,0 +1,61 @@
+-- What the steps of a fetch say.
+use Prim.Native.Nat.{ℕ, _*_, _≤_, _<_}
+use mathlib.Core.Path.{_≡_}
+use mathlib.Core.Bool.{true, false}
+use Rattle.laws.specs.Numbers.{max64}
+use Rattle.model.specs.Calls.{bad-info}
+use Rattle.model.specs.Scoreboard.{fetched}
+use Rattle.op.specs.declared.PipelineOp.{PipelineOp}
+use Rattle.op.specs.View.{viewOp}
+use Rattle.registers.specs.declared.Resolved.{Resolved}
+use Rattle.flight.specs.declared.MaybeHazard.the-variants.{Nothing}
+use Rattle.flight.specs.declared.Operands.{Operands}
+use Rattle.flight.specs.declared.Queued.{Queued}
+use Rattle.flight.specs.View.{QueuedOk}
+use Rattle.timeline.specs.declared.RowText.{RowText}
+use Rattle.scoreboard.specs.declared.ScoreboardPipeline.{ScoreboardPipeline}
+use Rattle.scoreboard.specs.View.{viewEngine}
+use Rattle.scoreboard.specs.Valid.{Parts}
+
+-- The entry of an operation, by the numbers of its registers.
+abbrev pub operands-of : Resolved → Operands
+operands-of r =
+    record {
+      sources = r .sources;
+      destinations = r .destinations;
+      «sources_len» = r .«sources_len»;
+      «destinations_len» = r .«destinations_len»;
+    }
+
+abbrev pub entry-of : Resolved → PipelineOp → ℕ → ℕ → ℕ → Queued
+entry-of r o seq latency place =
+    record {
+      seq = seq;
+      operands = operands-of r;
+      class = o .class;
+      branch = o .branch;
+      hazard = Nothing;
+      latency = latency;
+      place = place;
+    }
+
+pub record Queueing (x : Resolved) (o : PipelineOp) (seq latency place : ℕ) (r : Queued) : Type 0 where
+  pub is : r ≡ entry-of x o seq latency place
+  pub ok : QueuedOk r
+
+-- What stays of its row.
+abbrev pub row-text : PipelineOp → RowText
+row-text o = record { address = o .address; class = o .class; atomic = o .atomic; disassembly = o .disassembly }
+
+-- Nothing refuses the fetch.
+pub record Fetchable (e : ScoreboardPipeline) (o : PipelineOp) (lent : ℕ) : Type 0 where
+  pub outside : e .board .front .«in_cycle» ≡ false
+  pub invited : e .board .front .invited ≡ true
+  pub good : bad-info (viewOp o .info) ≡ false
+  pub next : e .window .next < max64
+  pub room : e .window .history * 200 ≤ lent
+
+-- The engine with the operation queued.
+pub record Accepts (e : ScoreboardPipeline) (o : PipelineOp) (r : ScoreboardPipeline) : Type 0 where
+  pub is : viewEngine r ≡ fetched (viewOp o) (viewEngine e)
+  pub parts : Parts r

@@ -1,0 +1,7 @@
+pub mod View
+pub mod Valid
+pub mod Calls
+pub mod Answers
+pub mod Fetching
+pub mod Advance
+pub mod Control
