@@ -1,0 +1,3 @@
+pub mod Demand1
+pub mod Witness
+pub mod Reached
