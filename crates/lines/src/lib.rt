@@ -5,7 +5,7 @@ use reading::Reading;
 // Texts cut at a byte.
 mod parts;
 // The first two words of a line.
-mod words;
+mod leading;
 // What has been read of a line.
 mod reading;
 

@@ -1,6 +1,6 @@
 // An operation as it is read from a line, word by word.
+use super::leading;
 use super::parts;
-use super::words;
 use capability::MaybeClass;
 use capability::PipelineInstructionClass;
 use op::Name;
@@ -28,7 +28,7 @@ fn plain_op(class: PipelineInstructionClass, size: u64, text: Text, address: u64
 {
     let made = PipelineOp::new(address, text, class, 0);
     let op = made.with_length(size);
-    if words::branches(class) {
+    if leading::branches(class) {
         return op.branching();
     }
     op
@@ -38,11 +38,11 @@ fn plain_op(class: PipelineInstructionClass, size: u64, text: Text, address: u64
 pub fn started(class: &[u8], size: &[u8], text: &[u8], address: u64) -> Reading
     ensures { λ r. ⌜ viewReading r ≡ read-start (class-in (now (class .entry))) (size-in (now (size .entry))) (now (text .entry)) address ⌝ }
 {
-    let found = words::class_in(class);
+    let found = leading::class_in(class);
     let MaybeClass::Some(c) = found else {
         return Reading::none();
     };
-    let n = words::size_in(size);
+    let n = leading::size_in(size);
     if n == 0 {
         return Reading::none();
     }

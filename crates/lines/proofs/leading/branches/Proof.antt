@@ -5,8 +5,8 @@ use Rattle.capability.specs.Numbers.{class-number}
 use Rattle.model.specs.Config.{same-class}
 use Rattle.model.specs.Forecast.{branches}
 use Rattle.lines.proofs.ClassAndSize.{no-branch}
-use Rattle.lines.proofs.words.branches.Statement.{statement}
-use Rattle.lines.proofs.words.branches.Tie as tie
+use Rattle.lines.proofs.leading.branches.Statement.{statement}
+use Rattle.lines.proofs.leading.branches.Tie as tie
 
 enum-told : tie.Need-enum-told
 enum-told c = search needs

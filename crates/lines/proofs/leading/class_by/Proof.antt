@@ -5,8 +5,8 @@ use Rattle.model.specs.Forecast.{letters}
 use Rattle.lines.proofs.Cut.{cut-place}
 use Rattle.lines.proofs.ClassAndSize.{class-place}
 use borrow.Author.Needs.{needs}
-use Rattle.lines.proofs.words.class_by.Statement.{statement}
-use Rattle.lines.proofs.words.class_by.Tie as tie
+use Rattle.lines.proofs.leading.class_by.Statement.{statement}
+use Rattle.lines.proofs.leading.class_by.Tie as tie
 
 slice-aggregate-place-of : tie.Need-slice-aggregate-place-of
 slice-aggregate-place-of c = search needs

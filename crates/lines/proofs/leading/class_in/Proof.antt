@@ -2,8 +2,8 @@
 use mathlib.Core.Path.{sym, _∙_}
 use Rattle.lines.proofs.ClassAndSize.{one-letter, no-class}
 use borrow.Author.Needs.{needs}
-use Rattle.lines.proofs.words.class_in.Statement.{statement}
-use Rattle.lines.proofs.words.class_in.Tie as tie
+use Rattle.lines.proofs.leading.class_in.Statement.{statement}
+use Rattle.lines.proofs.leading.class_in.Tie as tie
 
 shared-slice-read-class-by : tie.Need-shared-slice-read-class-by
 shared-slice-read-class-by c = search needs

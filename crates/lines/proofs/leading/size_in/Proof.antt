@@ -3,8 +3,8 @@ use mathlib.Core.Path.{sym, ap, _∙_}
 use borrow.Author.Needs.{needs}
 use Rattle.model.specs.Forecast.{size-in}
 use Rattle.lines.proofs.ClassAndSize.{one-byte, two-bytes, no-size, size-none}
-use Rattle.lines.proofs.words.size_in.Statement.{statement}
-use Rattle.lines.proofs.words.size_in.Tie as tie
+use Rattle.lines.proofs.leading.size_in.Statement.{statement}
+use Rattle.lines.proofs.leading.size_in.Tie as tie
 
 shared-slice-read-one-digit : tie.Need-shared-slice-read-one-digit
 shared-slice-read-one-digit c = search needs

@@ -3,8 +3,8 @@ use mathlib.Core.Path.{sym, _∙_}
 use native.Mathlib.Omega.{arith}
 use borrow.Author.Needs.{needs}
 use Rattle.lines.proofs.ClassAndSize.{size-none, size-some, digits-first, digits-low, digits-high, digits-two}
-use Rattle.lines.proofs.words.two_digits.Statement.{statement}
-use Rattle.lines.proofs.words.two_digits.Tie as tie
+use Rattle.lines.proofs.leading.two_digits.Statement.{statement}
+use Rattle.lines.proofs.leading.two_digits.Tie as tie
 
 returns : tie.Need-returns
 returns c = size-none ∙ sym (digits-first _ _ (c .if1 .taken))

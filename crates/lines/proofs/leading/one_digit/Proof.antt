@@ -3,8 +3,8 @@ use mathlib.Core.Path.{sym, _∙_}
 use native.Mathlib.Omega.{arith}
 use borrow.Author.Needs.{needs}
 use Rattle.lines.proofs.ClassAndSize.{size-none, size-some, digit-low, digit-high, digit-one}
-use Rattle.lines.proofs.words.one_digit.Statement.{statement}
-use Rattle.lines.proofs.words.one_digit.Tie as tie
+use Rattle.lines.proofs.leading.one_digit.Statement.{statement}
+use Rattle.lines.proofs.leading.one_digit.Tie as tie
 
 returns : tie.Need-returns
 returns c = size-none ∙ sym (digit-low _ (c .if1 .taken))
