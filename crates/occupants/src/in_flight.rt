@@ -3,6 +3,7 @@ use crate::MaybeOp;
 use crate::op_of;
 use crate::slot_view;
 use bank::Units;
+use capability::MaybeIndex;
 use flight::Queue;
 use flight::Queued;
 use flight::pool::DecodedPool;
@@ -56,16 +57,15 @@ pub fn oldest_in_flight(units: Units, queue: Queue) -> MaybeOp
     requires { ⌜ QueueOk queue ⌝ }
     ensures { λ r. ⌜ MeansFor viewMaybeOp MaybeOpOk r (λ g. oldest-op (map unit-op (keep is-busy (viewUnits g units)) ++ viewQueue g queue)) ⌝ }
 {
-    let mut found = oldest_queued(queue);
-    let mut i = units.len;
-    while 0 < i {
-        i -= 1;
-        let u = units.items[i];
-        if u.busy {
-            found = older_op(op_of(u), found);
+    let queued = oldest_queued(queue);
+    let items = units.items;
+    match units::lent::oldest_first(items, units.len) {
+        MaybeIndex::Some(i) => {
+            let u = items[i];
+            older_op(op_of(u), queued)
         }
+        MaybeIndex::Nothing => queued,
     }
-    found
 }
 
 // The address of an operation, or another where there is none.

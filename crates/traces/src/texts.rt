@@ -25,7 +25,7 @@ pub struct Digits {
 }
 
 // A slice at a place of the buffer; the next place.
-fn put(out: &mut [u8], at: usize, s: &[u8]) -> usize
+pub fn put(out: &mut [u8], at: usize, s: &[u8]) -> usize
     requires { ⌜ at + length (now s) ≤ length (now out) ⌝ }
     ensures { λ r. ⌜ Laid at (now (s .entry)) (now (out .entry)) (now (out .exit)) r ⌝ }
 {
