@@ -1,0 +1,4 @@
+pub mod Idle
+pub mod Cycles
+pub mod Taken
+pub mod Turns

@@ -1,0 +1,162 @@
+-- A line that is taken: read, and fetched at the engine's address.
+use Prim.Native.Nat.{ℕ, suc, _+_, _≤_}
+use mathlib.Core.Path.{_≡_, refl, sym, ap, ap₂, _∙_}
+use mathlib.Core.Bool.{true, false, not, false≢true}
+use mathlib.Core.Option.{Option, none, some}
+use mathlib.Core.List.{List, [], _∷_}
+use native.Mathlib.Omega.{arith}
+use types.Run.{OneOf, miss}
+use denote.Enum.Declared.{tagOf}
+use lib.ListN.{length, drop}
+use Rattle.laws.specs.Optional.{when-some}
+use Rattle.laws.specs.Texts.{Text}
+use Rattle.model.specs.Op.{Given}
+use Rattle.model.specs.State.{State}
+use Rattle.model.specs.Calls.{fetch, refused, done, refusal, reply, answer, memory-after}
+use Rattle.model.specs.Forecast.{
+  Line,
+  Run,
+  line-refused,
+  going,
+  first-line,
+  other-lines,
+  parse,
+  line-given,
+  lent-of,
+  play,
+  fetch-line,
+  take-fetched,
+  take-parsed,
+}
+use Rattle.op.specs.View.{viewOp}
+use Rattle.lines.specs.declared.Read.{Read}
+use Rattle.lines.specs.Lines.{LineRead, Stands}
+use Rattle.lines.proofs.Stands.{fetched-alike}
+use Rattle.board.specs.View.{viewBoard}
+use Rattle.scoreboard.specs.declared.ScoreboardPipeline.{ScoreboardPipeline}
+use Rattle.scoreboard.specs.declared.Next.{Next}
+use Rattle.scoreboard.specs.declared.Answer.{Answer}
+use Rattle.scoreboard.specs.declared.Answer.the-variants.{Refused, Done, Offered, NoOffer, Resolved, NotResolved, Invitation, NoInvitation}
+use Rattle.scoreboard.proofs.Answer as answers
+use Rattle.scoreboard.specs.View.{viewEngine, viewAnswer}
+use Rattle.scoreboard.specs.Valid.{Valid}
+use Rattle.scoreboard.specs.Calls.{Does}
+use Rattle.scoreboard.proofs.Does.{memory-kept}
+use Rattle.driving.specs.Runs.{run-by, viewRun, Goes}
+use Rattle.driving.proofs.Cycles.{played}
+
+-- ── What a fetch answers ────────────────────────────────────────────────────
+
+module _ (s : State) (m : List ℕ) (g : Given) (lent : ℕ) where
+  fetch-refused : (x : Answer) {n : ℕ} → viewAnswer x ≡ answer s m (fetch g lent) → x ≡ Refused n → refusal s (fetch g lent) ≡ some n
+  unfolding answer reply viewAnswer
+  fetch-refused x {n} e q = go (refusal s (fetch g lent)) (sym (ap viewAnswer q) ∙ e)
+    where
+      go : (o : Option ℕ) → refused n ≡ when-some o done refused → o ≡ some n
+      go none h = cc
+      go (some k) h = cc
+
+  fetch-done : (x : Answer) → viewAnswer x ≡ answer s m (fetch g lent)
+      → OneOf (1 ∷ 2 ∷ 3 ∷ 4 ∷ 5 ∷ 6 ∷ 7 ∷ []) (tagOf answers.the-type x)
+      → refusal s (fetch g lent) ≡ none
+  unfolding answer reply viewAnswer
+  fetch-done x e t = go (refusal s (fetch g lent)) x e t
+    where
+      go : (o : Option ℕ) (y : Answer) → viewAnswer y ≡ when-some o done refused → OneOf (1 ∷ 2 ∷ 3 ∷ 4 ∷ 5 ∷ 6 ∷ 7 ∷ []) (tagOf answers.the-type y) → o ≡ none
+      go none y h u = refl
+      go (some k) (Refused n) h u = absurd (miss (1 ∷ 2 ∷ 3 ∷ 4 ∷ 5 ∷ 6 ∷ 7 ∷ []) 0 tt u)
+      go (some k) Done h u = cc
+      go (some k) (Offered v) h u = cc
+      go (some k) NoOffer h u = cc
+      go (some k) (Resolved v) h u = cc
+      go (some k) NotResolved h u = cc
+      go (some k) (Invitation v) h u = cc
+      go (some k) NoInvitation h u = cc
+
+-- ── A line that was read ────────────────────────────────────────────────────
+
+module _ {input : Text} {from pc : ℕ} {r : Read} (l : LineRead input from pc r) where
+  unread : not (r .form) ≡ true → parse (first-line (drop from input)) ≡ none
+  unread h = go (parse (first-line (drop from input))) refl
+    where
+      go : (o : Option Line) → parse (first-line (drop from input)) ≡ o → o ≡ none
+      go none q = refl
+      go (some x) q = absurd (false≢true (sym (ap not (l .is-form x q .0)) ∙ h))
+
+  -- By the line, where it has the form.
+  by-line : (C : Type 0) → not (r .form) ≡ false → ((x : Line) → parse (first-line (drop from input)) ≡ some x → Stands (line-given x pc) (r .op) → C) → C
+  by-line C h f = go (parse (first-line (drop from input))) refl
+    where
+      go : (o : Option Line) → parse (first-line (drop from input)) ≡ o → C
+      go none q = absurd (false≢true (sym h ∙ ap not (l .no-form q)))
+      go (some x) q = f x q (l .is-form x q .1)
+
+module _ (input : Text) (from lines : ℕ) (r : Read) (e : ScoreboardPipeline) (m : List ℕ) (read : LineRead input from (e .board .«fetch_pc») r)
+    (h : lines ≤ from) where
+  l : LineRead input from (viewEngine e .front .fetch-pc) r
+  unfolding viewEngine viewBoard
+  l = read
+
+  -- By what the line says.
+  abbrev taking : Option Line → Run
+  taking o = take-parsed o (viewEngine e .front .fetch-pc) (other-lines (drop from input)) (suc lines) (lent-of (viewEngine e) m)
+
+  -- By what its fetch is refused for.
+  abbrev fetching : Given → Option ℕ → Run
+  fetching g o = take-fetched o (fetch g (length m)) (other-lines (drop from input)) (suc lines) (lent-of (viewEngine e) m)
+
+  one-more : lines + 1 ≡ suc lines
+  one-more = omega arith
+
+  pub no-line : Valid e → not (r .form) ≡ true
+      → Goes input (taking (parse (first-line (drop from input)))) (record { engine = e; at = r .next; lines = lines + 1; stands = 2; number = 14 }) m
+  unfolding take-parsed viewRun run-by
+  no-line v f =
+      record {
+        is = ap (λ n. line-refused n 14 m) one-more ∙ sym (ap taking (unread l f));
+        valid = v;
+        at = l .most;
+        lines = omega (arith, l .on, h);
+      }
+
+  module _ {k : Next} {n : List ℕ} (d : Does e (fetch (viewOp (r .op)) (length m)) k)
+      (w : n ≡ memory-after (viewEngine e) (fetch (viewOp (r .op)) (length m)) m) (f : not (r .form) ≡ false) where
+    pub refused-line : {no : ℕ} → k .answer ≡ Refused no
+        → Goes input (taking (parse (first-line (drop from input)))) (record { engine = k .engine; at = r .next; lines = lines + 1; stands = 2; number = no }) n
+    unfolding take-parsed take-fetched fetch-line viewRun run-by
+    refused-line {no} q =
+        let o = fetch-refused (viewEngine e) m (viewOp (r .op)) (length m) (k .answer) (d .answer m) q in
+        let kept = memory-kept (viewEngine e) (fetch (viewOp (r .op)) (length m)) m o in
+        record {
+          is =
+              by-line l _ f
+              (λ x p t.
+              let g = line-given x (viewEngine e .front .fetch-pc) in
+              let alike = fetched-alike (viewEngine e) (length m) g (r .op) t in
+              ap₂ (λ i c. line-refused i no c) one-more (w ∙ sym kept) ∙ sym (ap (fetching g) (sym (alike .refused) ∙ o)) ∙ sym (ap taking p));
+          valid = d .valid;
+          at = l .most;
+          lines = omega (arith, l .on, h);
+        }
+
+    pub fetched-line : OneOf (1 ∷ 2 ∷ 3 ∷ 4 ∷ 5 ∷ 6 ∷ 7 ∷ []) (tagOf answers.the-type (k .answer))
+        → Goes input (taking (parse (first-line (drop from input)))) (record { engine = k .engine; at = r .next; lines = lines + 1; stands = 0; number = 0 }) n
+    unfolding take-parsed take-fetched fetch-line viewRun run-by
+    fetched-line q =
+        let o = fetch-done (viewEngine e) m (viewOp (r .op)) (length m) (k .answer) (d .answer m) q in
+        record {
+          is =
+              by-line l _ f
+              (λ x p t.
+              let g = line-given x (viewEngine e .front .fetch-pc) in
+              let alike = fetched-alike (viewEngine e) (length m) g (r .op) t in
+              let free = sym (alike .refused) ∙ o in
+              let same = ap (λ y. play (fetch y (length m)) (lent-of (viewEngine e) m)) (alike .taken free) in
+              ap₂ (λ u i. going (lent-of (viewEngine (k .engine)) n) u i) (l .others) one-more
+              ∙ ap (λ u. going u (other-lines (drop from input)) (suc lines)) (played m d w ∙ same)
+              ∙ sym (ap (fetching g) free)
+              ∙ sym (ap taking p));
+          valid = d .valid;
+          at = l .most;
+          lines = omega (arith, l .on, h);
+        }
