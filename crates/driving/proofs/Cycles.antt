@@ -13,12 +13,12 @@ use Rattle.model.specs.Units.{unit-at}
 use Rattle.model.specs.Write.{offered-op}
 use Rattle.model.specs.Calls.{Call, start, retire, advance, refusal, sets, memory-after}
 use Rattle.model.specs.Forecast.{lent-of, play, retire-offer, cycle}
-use Rattle.rows.proofs.Bytes.{write-all-length}
 use Rattle.board.specs.View.{viewBoard}
 use Rattle.scoreboard.specs.declared.ScoreboardPipeline.{ScoreboardPipeline}
 use Rattle.scoreboard.specs.declared.Next.{Next}
 use Rattle.scoreboard.specs.View.{viewEngine}
 use Rattle.scoreboard.specs.Calls.{Does}
+use Rattle.scoreboard.proofs.Does.{same-size}
 use Rattle.scoreboard.proofs.Answers.{no-index, an-index}
 use Rattle.driving.specs.Runs.{Starts, Cycles}
 
@@ -31,14 +31,6 @@ memory-same s c m e = go (refusal s c)
   where
     go : (o : Option ℕ) → when-some o (write-all (sets s c) m) (λ (k : ℕ). m) ≡ m
     go none = ap (λ w. write-all w m) e
-    go (some k) = refl
-
-pub same-size : (s : State) (c : Call) (m : List ℕ) {n : List ℕ} → n ≡ memory-after s c m → length n ≡ length m
-unfolding memory-after
-same-size s c m e = ap length e ∙ go (refusal s c)
-  where
-    go : (o : Option ℕ) → length (when-some o (write-all (sets s c) m) (λ (k : ℕ). m)) ≡ length m
-    go none = write-all-length (sets s c) m
     go (some k) = refl
 
 -- A call that was made, with the memory lent.

@@ -3,11 +3,13 @@ use Prim.Native.Nat.{ℕ}
 use mathlib.Core.Path.{_≡_, refl, sym, subst, ap, _∙_}
 use mathlib.Core.Option.{Option, none, some}
 use mathlib.Core.List.{List}
+use lib.ListN.{length}
 use Rattle.laws.specs.Optional.{when-some}
 use Rattle.laws.proofs.Choices.{none-some}
 use Rattle.model.specs.Timeline.{write-all}
 use Rattle.model.specs.State.{State}
 use Rattle.model.specs.Calls.{Call, Answer as ModelAnswer, refused, refusal, run, reply, sets, answer, after, memory-after}
+use Rattle.rows.proofs.Bytes.{write-all-length}
 use Rattle.invariant.specs.Invariant.{Invariant}
 use Rattle.invariant.proofs.Invariant.{invariant-kept}
 use Rattle.scoreboard.specs.declared.ScoreboardPipeline.{ScoreboardPipeline}
@@ -54,3 +56,12 @@ module _ (s : State) (c : Call) (m : List ℕ) where
   pub memory-set : refusal s c ≡ none → write-all (sets s c) m ≡ memory-after s c m
   unfolding memory-after
   memory-set h = sym (ap (λ (o : Option ℕ). when-some o (write-all (sets s c) m) (λ (k : ℕ). m)) h)
+
+-- It keeps its length.
+pub same-size : (s : State) (c : Call) (m : List ℕ) {n : List ℕ} → n ≡ memory-after s c m → length n ≡ length m
+unfolding memory-after
+same-size s c m e = ap length e ∙ go (refusal s c)
+  where
+    go : (o : Option ℕ) → length (when-some o (write-all (sets s c) m) (λ (k : ℕ). m)) ≡ length m
+    go none = write-all-length (sets s c) m
+    go (some k) = refl
