@@ -1,0 +1,5 @@
+pub mod Parts
+pub mod Records
+pub mod Calls
+pub mod Limits
+pub mod Encoding
