@@ -4,14 +4,14 @@ use scoreboard::ScoreboardPipeline;
 use traces::texts::Written;
 use traces::texts::write_text;
 ghost use mathlib.Core.Path.{_≡_};
-ghost use Prim.Native.Nat.{_*_, _≤_};
-ghost use lib.ListN.{length};
+ghost use Prim.Native.Nat.{_*_, _≤_, min};
+ghost use lib.ListN.{length, take};
 ghost use Rattle.laws.specs.Texts.{Text};
 ghost use Rattle.model.specs.Forecast.{printed, forecast-answer, forecast-memory, forecast-out};
 ghost use Rattle.traces.specs.Texts.{Laid};
 ghost use Rattle.scoreboard.specs.Valid.{Valid};
 ghost use Rattle.driving.specs.Runs.{viewRun};
-ghost use Rattle.forecasting.specs.View.{viewOutcome, answered};
+ghost use Rattle.forecasting.specs.View.{viewOutcome, answered, bytes-printed};
 
 // The number for no, or how many bytes were printed.
 pub enum Outcome {
@@ -75,4 +75,21 @@ pub fn forecast(input: &[u8], cells: &mut [u8], out: &mut [u8]) -> Outcome
     let g = driving::run(on.engine, input, cells);
     let n = put_run(&mut page, g, cells);
     answered(write_text(&page[..n], out))
+}
+
+// How much of a lent `out` was printed, for a program to write. (`most` and `part` follow from `count`; they are what lending that part asks.)
+pub fn printed_len(answer: Outcome, out: &[u8]) -> usize
+    ensures count { λ r. ⌜ r ≡ min (bytes-printed (viewOutcome answer)) (length (now (out .entry))) ⌝ }
+    ensures most { λ r. ⌜ r ≤ length (now (out .entry)) ⌝ }
+    ensures part { λ r. ⌜ r ≡ length (take r (now (out .entry))) ⌝ }
+{
+    match answer {
+        Outcome::Refused(_) => 0,
+        Outcome::Written(k) => {
+            if k < out.len() {
+                return k;
+            }
+            out.len()
+        }
+    }
 }
