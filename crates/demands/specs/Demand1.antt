@@ -6,10 +6,31 @@ use mathlib.Core.List.{List}
 use lib.ListN.{length}
 use Rattle.laws.specs.Lists.{All}
 use Rattle.model.specs.Config.{PipelineShape}
-use Rattle.model.specs.State.{new}
+use Rattle.model.specs.State.{State, new}
 use Rattle.model.specs.Timeline.{write-all}
-use Rattle.model.specs.Calls.{Call, checks, make-checks, reply, run, sets, memory-made, memory-after, make-memory}
+use Rattle.model.specs.Requests.{Request, text-at}
+use Rattle.model.specs.Calls.{
+  Answer,
+  refused,
+  Call,
+  cell,
+  text,
+  checks,
+  make-checks,
+  answer,
+  reply,
+  run,
+  sets,
+  memory-made,
+  memory-after,
+  make-memory,
+  buffer-after,
+}
 use Rattle.refusals.specs.Refusals.{fails, First}
+use Rattle.timeline.specs.declared.cells.MaybeCell.{MaybeCell}
+use Rattle.timeline.specs.Cells.{cell-answer}
+use Rattle.traces.specs.declared.texts.Written.{Written}
+use Rattle.traces.specs.Texts.{written, text-answer}
 use Rattle.scoreboard.specs.declared.ScoreboardPipeline.{ScoreboardPipeline}
 use Rattle.scoreboard.specs.declared.Next.{Next}
 use Rattle.scoreboard.specs.declared.Answer.the-variants.{Refused, Done}
@@ -41,3 +62,23 @@ pub record Make-refusals (d : PipelineShape) (entry : ℕ) (r : Next) (m n : Lis
 abbrev pub Demand-1-making : Type 0
 Demand-1-making =
     (d : PipelineShape) (entry : ℕ) (r : Next) (m n : List ℕ) → Makes d entry (length m) r → n ≡ make-memory d m → Make-refusals d entry r m n
+
+-- ── Cell views and text requests: they hand back no engine ──────────────────
+
+-- Call c on an engine that means s, with cell memory m; x is what the code's answer means.
+pub record View-refusals (s : State) (m : List ℕ) (c : Call) (x : Answer) : Type 0 where
+  pub refused-first : (k : ℕ) → (x ≡ refused k) ↔ First k (checks s c)
+  pub taken : All fails (checks s c) → x ≡ reply s m c
+
+-- The memory of a cell view is lent to be read.
+abbrev pub Demand-1-cells : Type 0
+Demand-1-cells =
+    (e : ScoreboardPipeline) (row i : ℕ) (m : List ℕ) (r : MaybeCell) → cell-answer r ≡ answer (viewEngine e) m (cell row i (length m))
+    → View-refusals (viewEngine e) m (cell row i (length m)) (cell-answer r)
+
+-- The buffer of a text request, b before, is out after.
+abbrev pub Demand-1-texts : Type 0
+Demand-1-texts =
+    (e : ScoreboardPipeline) (t : Request) (m b out : List ℕ) (r : Written) → r ≡ written (length b) (text-at (viewEngine e) t)
+    → out ≡ buffer-after (viewEngine e) t b
+    → View-refusals (viewEngine e) m (text t (length b)) (text-answer r out) × ((k : ℕ) → text-answer r out ≡ refused k → out ≡ b)
