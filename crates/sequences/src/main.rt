@@ -46,6 +46,7 @@ fn forecasts() {
 
 fn refusals() {
     sample(b"refused_10_names.txt");
+    sample(b"refused_14_before_2.txt");
     sample(b"refused_14_class.txt");
     sample(b"refused_14_empty_line.txt");
     sample(b"refused_14_empty_name.txt");
