@@ -1,0 +1,47 @@
+-- It is there, or it is not.
+use Rattle.traces.proofs.Written.{laid-next}
+use Rattle.timeline.specs.Cells.{cell-answer}
+use Rattle.answers.proofs.Laid.{laid-of}
+use Rattle.answers.specs.Bytes.{optional}
+use Rattle.answers.specs.Encode.{encode}
+use borrow.Author.Needs.{needs}
+use Rattle.answers.proofs.shown.put_cell_answer.Statement.{statement}
+use Rattle.answers.proofs.shown.put_cell_answer.Tie as tie
+
+returns : tie.Need-returns
+unfolding encode optional cell-answer
+returns c =
+    let q = c .before .before in
+    let p = q .before .before .before .before in
+    let a = p .before .before .before in
+    laid-of (λ o. encode (cell-answer o)) (a .cell .given .1) (laid-next (p .put-two .ensures) (q .put-cell .ensures))
+
+returns-2 : tie.Need-returns-2
+unfolding encode optional cell-answer
+returns-2 c =
+    let p = c .before .before in
+    laid-of (λ o. encode (cell-answer o)) (p .before .before .enum-told .given .1) (p .put-two2 .ensures)
+
+returns-3 : tie.Need-returns-3
+unfolding encode optional cell-answer
+returns-3 c =
+    let p = c .before .before in
+    laid-of (λ o. encode (cell-answer o)) (p .before .before .before .cell2 .given .1) (p .put-byte .ensures)
+
+pub put-cell-answer-spec : {M : Type 1} → statement M
+put-cell-answer-spec =
+    tie.close
+    (tie.spec
+    (λ c. search needs)
+    (λ c κs. search needs)
+    (λ c κs. search needs)
+    (λ c. search needs)
+    (λ c κs. search needs)
+    (λ c. search needs)
+    (λ c κs. search needs)
+    (λ c. search needs)
+    returns
+    (λ c. search needs)
+    returns-2
+    (λ c. search needs)
+    returns-3)
