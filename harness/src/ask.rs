@@ -2,13 +2,13 @@
 
 use crate::call::{Call, Field, Place, Request, View};
 use crate::capability::{PipelineDynamicInspect, PipelineInspect};
+use crate::driver::Driver;
 use crate::generate::{EDGE, Generator, Style};
-use crate::play::Player;
 
 impl Generator {
     /// Any call at all.
-    pub fn any_call(&mut self, player: &Player) -> Call {
-        let lent = self.lent(player);
+    pub fn any_call(&mut self, driver: &Driver) -> Call {
+        let lent = self.lent(driver);
         let stops = self.style != Style::Rows;
         match self.rng.below(64) {
             0..3 => Call::Start,
@@ -21,24 +21,24 @@ impl Generator {
                 Call::Advance(redirect, if self.rng.percent(30) { 0 } else { lent })
             }
             15..21 => {
-                let mut given = self.given(player);
+                let mut given = self.given(driver);
                 self.spoil(&mut given);
                 Call::Fetch(given, if self.rng.percent(30) { 0 } else { lent })
             }
-            21..27 => self.capacity(player),
+            21..27 => self.capacity(driver),
             27..30 => Call::Overlap(self.rng.percent(60)),
             30 if stops => Call::Halt,
             31 if stops => Call::Fault(self.reason()),
             32 if stops => Call::Reset(self.address(), lent),
             33 if stops => Call::Redirect(self.address()),
-            34..44 => Call::View(self.view(player)),
-            44..50 => self.cell(player, lent),
-            _ => self.text_request(player),
+            34..44 => Call::View(self.view(driver)),
+            44..50 => self.cell(driver, lent),
+            _ => self.text_request(driver),
         }
     }
 
-    fn capacity(&mut self, player: &Player) -> Call {
-        let kinds = player.driver.kinds.len();
+    fn capacity(&mut self, driver: &Driver) -> Call {
+        let kinds = driver.kinds.len();
         let kind = self.index(kinds);
         let instances = match self.rng.below(8) {
             0 => 64,
@@ -56,22 +56,22 @@ impl Generator {
         Call::Capacity(kind, if wide { 3 } else { instances })
     }
 
-    fn cell(&mut self, player: &Player, lent: u64) -> Call {
-        let engine = &player.driver.engine;
+    fn cell(&mut self, driver: &Driver, lent: u64) -> Call {
+        let engine = &driver.engine;
         let row = self.index(engine.timeline_len());
         let cells = engine.timeline_row(row as usize);
         let cell = self.index(cells.map_or(0, |row| row.cells));
         let lent = if self.rng.percent(15) {
-            self.rng.below(player.driver.machine.memory())
+            self.rng.below(driver.machine.memory())
         } else {
             lent
         };
         Call::Cell(row, cell, lent)
     }
 
-    fn text_request(&mut self, player: &Player) -> Call {
-        let request = self.request(player);
-        let text = player.driver.text(&request);
+    fn text_request(&mut self, driver: &Driver) -> Call {
+        let request = self.request(driver);
+        let text = driver.text(&request);
         let length = text.map_or(0, |text| text.len() as u64);
         let room = match self.rng.below(8) {
             0 => length.saturating_sub(1),
@@ -83,8 +83,8 @@ impl Generator {
         Call::Text(request, room)
     }
 
-    fn view(&mut self, player: &Player) -> View {
-        let engine = &player.driver.engine;
+    fn view(&mut self, driver: &Driver) -> View {
+        let engine = &driver.engine;
         match self.rng.below(30) {
             0 => View::Status,
             1 => View::Stats,
@@ -103,7 +103,7 @@ impl Generator {
             14 => View::QueueCount,
             15 => View::BufferCount,
             16 => View::BufferCapacity,
-            17 | 18 => View::InFlightBefore(self.index(player.driver.fetches as usize)),
+            17 | 18 => View::InFlightBefore(self.index(driver.fetches as usize)),
             19 | 20 => View::Stage(self.index(engine.stage_count())),
             21 | 22 => View::Unit(self.index(engine.unit_count())),
             23 => View::Trace(self.index(engine.trace_count())),
@@ -115,8 +115,8 @@ impl Generator {
         }
     }
 
-    fn request(&mut self, player: &Player) -> Request {
-        let engine = &player.driver.engine;
+    fn request(&mut self, driver: &Driver) -> Request {
+        let engine = &driver.engine;
         match self.rng.below(14) {
             0 => Request::StatusMessage,
             1 | 2 => Request::TraceDetail(self.index(engine.trace_count())),
@@ -134,12 +134,12 @@ impl Generator {
                 let station = self.index(engine.station_count());
                 Request::OperandRegister(station, self.rng.below(4))
             }
-            _ => self.slot_request(player),
+            _ => self.slot_request(driver),
         }
     }
 
-    fn slot_request(&mut self, player: &Player) -> Request {
-        let engine = &player.driver.engine;
+    fn slot_request(&mut self, driver: &Driver) -> Request {
+        let engine = &driver.engine;
         let place = match self.rng.below(5) {
             0 => Place::Queue(self.index(engine.queue_count())),
             1 => Place::Station(self.index(engine.station_count())),

@@ -28,7 +28,7 @@ pub struct Machine {
 impl Machine {
     /// The cell memory that a call needs: 200 bytes a row, and a history of 0 reads as 1.
     pub fn memory(&self) -> u64 {
-        200 * self.history.max(1)
+        self.history.max(1).saturating_mul(200)
     }
 }
 
@@ -151,6 +151,13 @@ impl Call {
             Call::Cell(..) => "cell",
             Call::Text(..) => "text",
         }
+    }
+}
+
+impl Call {
+    /// May it change the engine?
+    pub fn changes(&self) -> bool {
+        !matches!(self, Call::View(_) | Call::Cell(..) | Call::Text(..))
     }
 }
 

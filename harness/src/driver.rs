@@ -15,6 +15,7 @@ use crate::capability::{
 use crate::coverage::Coverage;
 use crate::numbers::Numbers;
 use crate::pipeline::{PipelineOp, ooo::ScoreboardPipeline};
+use crate::refuse::TEXT;
 use crate::shape::{shape, string};
 use crate::views::number_of_class;
 
@@ -115,8 +116,10 @@ impl Driver {
             numbers.all(&[0, number]);
         } else {
             looks = self.take(call, &mut numbers);
-            self.agrees();
-            coverage.after(self, call);
+            if call.changes() {
+                self.agrees();
+                coverage.after(self, call);
+            }
         }
         self.coverage = coverage;
         Answered {
@@ -308,14 +311,12 @@ impl Driver {
     }
 
     fn fetch(&mut self, given: &Given) {
-        let mut op = PipelineOp::new(
-            given.address,
-            string(&given.text),
-            given.class,
-            given.payload,
-        )
-        .with_length(given.size)
-        .reading(given.sources.iter().map(|name| string(name)));
+        // With room of its own, an empty text too: texts.rs tells operations by it.
+        let mut text = String::with_capacity(TEXT);
+        text.push_str(&string(&given.text));
+        let mut op = PipelineOp::new(given.address, text, given.class, given.payload)
+            .with_length(given.size)
+            .reading(given.sources.iter().map(|name| string(name)));
         op.writes = given.writes.iter().map(|name| string(name)).collect();
         op.destination = given.destination.as_deref().map(string);
         op.fault = given.fault.as_deref().map(string);

@@ -162,11 +162,18 @@ impl Driver {
         }
     }
 
-    /// Every byte of the lent cell memory, by document 01's layout, from the cells that the Rust shows.
+    /// Every byte of the lent cell memory.
     pub fn memory(&self, numbers: &mut Numbers) {
+        let mut bytes = vec![FILLER as u8; self.machine.lent as usize];
+        self.lay_cells(&mut bytes);
+        numbers.part("the lent cell memory");
+        numbers.text(&bytes);
+    }
+
+    /// The lent cell memory, by document 01's layout, from the cells that the Rust shows.
+    pub fn lay_cells(&self, bytes: &mut [u8]) {
         let history = self.machine.history.max(1);
-        let mut bytes = vec![255; self.machine.memory() as usize];
-        bytes.resize(self.machine.lent as usize, FILLER);
+        bytes[..self.machine.memory() as usize].fill(255);
         for at in 0..self.engine.timeline_len() as u64 {
             let row = self.engine.timeline_row(at as usize).expect("counted");
             let id = self.first_row() + at;
@@ -176,12 +183,9 @@ impl Driver {
                 bytes[place as usize] = self.cell_byte(at, cell);
             }
         }
-        numbers.part("the lent cell memory");
-        numbers.put(bytes.len() as u64);
-        numbers.all(&bytes);
     }
 
-    fn cell_byte(&self, row: u64, cell: u64) -> u64 {
+    fn cell_byte(&self, row: u64, cell: u64) -> u8 {
         let shown = self.engine.timeline_cell(row as usize, cell as usize);
         let shown = shown.expect("counted");
         let state = match shown.state {
@@ -190,6 +194,6 @@ impl Driver {
             PipelineTimelineState::Flushed => 64,
             state => panic!("a cell in state {state:?}"),
         };
-        self.label(row, shown.role) + state
+        self.label(row, shown.role) as u8 + state
     }
 }

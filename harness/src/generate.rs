@@ -2,7 +2,8 @@
 //! or retry, advance, fetch when invited), with calls of every kind thrown in, taken and refused ones.
 
 use crate::call::Call;
-use crate::play::{Case, Player, make};
+use crate::driver::Driver;
+use crate::play::{Case, Plays, make};
 use crate::rng::Rng;
 
 /// What a list is after.
@@ -49,6 +50,12 @@ pub struct Generator {
     redirect: Option<u64>,
 }
 
+/// What comes next: a call, or at most so many times start and advance.
+enum Next {
+    Call(Call),
+    Idle(u64),
+}
+
 pub const EDGE: [u64; 5] = [0, 1, u64::MAX, u64::MAX - 1, 1 << 63];
 
 /// A list from a seed.
@@ -69,8 +76,10 @@ pub fn generate(seed: u64) -> Case {
     let machine = generator.machine();
     match make(seed, &machine) {
         Err(case) => case,
-        Ok(player) if style == Style::Names => generator.names_list(player),
-        Ok(player) => generator.list(player),
+        Ok(mut player) => {
+            generator.play_on(&mut player);
+            player.end()
+        }
     }
 }
 
@@ -117,7 +126,16 @@ impl Generator {
         generator
     }
 
-    fn list(mut self, mut player: Player) -> Case {
+    /// A list, played while it is made.
+    pub fn play_on(self, player: &mut impl Plays) {
+        if self.style == Style::Names {
+            self.names_list(player);
+        } else {
+            self.list(player);
+        }
+    }
+
+    fn list(mut self, player: &mut impl Plays) {
         let calls = match self.style {
             Style::Small => self.rng.range(50, 150),
             Style::Odd => self.rng.range(60, 120),
@@ -133,21 +151,21 @@ impl Generator {
             player.shown(Call::Overlap(true));
         }
         for _ in 0..calls {
-            let call = if self.rng.percent(self.disturbance) {
-                Some(self.any_call(&player))
+            let next = if self.rng.percent(self.disturbance) {
+                Next::Call(self.any_call(player.driver()))
             } else {
-                self.drivers_call(&mut player)
+                self.drivers_call(player.driver())
             };
-            if let Some(call) = call {
-                self.play(&mut player, call);
+            match next {
+                Next::Call(call) => self.play(player, call),
+                Next::Idle(most) => player.idle(most),
             }
         }
         player.rest();
-        player.end()
     }
 
     /// In wide and in long lists most calls are compared by their answers alone.
-    fn play(&mut self, player: &mut Player, call: Call) {
+    fn play(&mut self, player: &mut impl Plays, call: Call) {
         let quiet = match self.style {
             Style::Wide => 90,
             Style::Rows => 92,
@@ -169,41 +187,40 @@ impl Generator {
     }
 
     /// What a driver would do next.
-    fn drivers_call(&mut self, player: &mut Player) -> Option<Call> {
-        let driver = &player.driver;
-        let lent = self.lent(player);
+    fn drivers_call(&mut self, driver: &Driver) -> Next {
+        let lent = self.lent(driver);
         if driver.stopped() && self.rng.percent(25) {
             let address = self.address();
-            return Some(if self.rng.percent(50) {
+            return Next::Call(if self.rng.percent(50) {
                 Call::Reset(address, lent)
             } else {
                 Call::Redirect(address)
             });
         }
         if !driver.in_cycle {
-            return self.between_cycles(player, lent);
+            return self.between_cycles(driver, lent);
         }
-        if let Some(call) = self.with_the_offer(player) {
-            return Some(call);
+        if let Some(call) = self.with_the_offer(driver) {
+            return Next::Call(call);
         }
         let redirect = if self.rng.percent(3) {
             Some(self.address())
         } else {
             self.redirect
         };
-        Some(Call::Advance(redirect, lent))
+        Next::Call(Call::Advance(redirect, lent))
     }
 
-    fn between_cycles(&mut self, player: &mut Player, lent: u64) -> Option<Call> {
-        if player.driver.invited && self.rng.percent(92) {
-            let mut given = self.given(player);
+    fn between_cycles(&mut self, driver: &Driver, lent: u64) -> Next {
+        if driver.invited && self.rng.percent(92) {
+            let mut given = self.given(driver);
             if self.rng.percent(4) {
                 self.spoil(&mut given);
             }
-            return Some(Call::Fetch(given, lent));
+            return Next::Call(Call::Fetch(given, lent));
         }
-        let busy = player.driver.busy().contains(&true);
-        let cells = player.driver.most_cells();
+        let busy = driver.busy().contains(&true);
+        let cells = driver.most_cells();
         // Around 200 cells each call is shown, while a row loses cells unlike its newest.
         let here = (195..206).contains(&cells);
         if self.style == Style::Long && busy && !here && self.rng.percent(30) {
@@ -212,15 +229,14 @@ impl Generator {
             } else {
                 self.rng.range(40, 260)
             };
-            player.idle(most);
-            return None;
+            return Next::Idle(most);
         }
-        Some(Call::Start)
+        Next::Call(Call::Start)
     }
 
     /// Resolve, retire or retry, if there is an offer that is not settled.
-    fn with_the_offer(&mut self, player: &Player) -> Option<Call> {
-        let op = player.driver.offer.as_ref()?;
+    fn with_the_offer(&mut self, driver: &Driver) -> Option<Call> {
+        let op = driver.offer.as_ref()?;
         let resolves = if op.branch { 60 } else { 4 };
         if self.redirect.is_none() && self.rng.percent(resolves) {
             let actual = if self.rng.percent(35) {
@@ -230,7 +246,7 @@ impl Generator {
             };
             return Some(Call::Resolve(actual));
         }
-        if player.driver.retired {
+        if driver.retired {
             return None;
         }
         Some(if self.rng.percent(8) {
@@ -249,8 +265,8 @@ impl Generator {
     }
 
     /// The length of the cell memory lent: now and then too short.
-    pub fn lent(&mut self, player: &Player) -> u64 {
-        let memory = player.driver.machine.memory();
+    pub fn lent(&mut self, driver: &Driver) -> u64 {
+        let memory = driver.machine.memory();
         match self.rng.below(60) {
             0 => memory - 1,
             1 => self.rng.below(memory),

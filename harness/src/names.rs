@@ -2,78 +2,90 @@
 
 use crate::call::{Call, Given};
 use crate::capability::PipelineInstructionClass as Class;
+use crate::driver::Driver;
 use crate::generate::Generator;
-use crate::play::{Case, Player};
+use crate::play::Plays;
 
 impl Generator {
-    pub fn names_list(mut self, mut player: Player) -> Case {
+    pub fn names_list(mut self, player: &mut impl Plays) {
         player.shown(Call::Overlap(true));
         loop {
-            self.to_an_invitation(&mut player, false);
-            let known = player.driver.names_with(&self.fresh(&player, 0, 0));
+            self.to_an_invitation(player, false);
+            let known = player
+                .driver()
+                .names_with(&self.fresh(player.driver(), 0, 0));
             if known + 12 > 255 {
                 break;
             }
-            let call = self.fetch_fresh(&player, 8, 4);
+            let call = self.fetch_fresh(player.driver(), 8, 4);
             player.quiet(call);
         }
-        self.around_the_limit(&mut player);
+        self.around_the_limit(player);
         // All that is queued is looked at; then the names go with a reset.
         for _ in 0..4 {
-            self.cycle(&mut player, true);
+            self.cycle(player, true);
         }
-        let again = self.fetch_fresh(&player, 1, 1);
+        let again = self.fetch_fresh(player.driver(), 1, 1);
         player.shown(again);
         player.shown(Call::Redirect(64));
-        self.to_an_invitation(&mut player, true);
-        let taken = self.fetch_fresh(&player, 8, 4);
+        self.to_an_invitation(player, true);
+        let taken = self.fetch_fresh(player.driver(), 8, 4);
         player.shown(taken);
-        self.to_an_invitation(&mut player, true);
+        self.to_an_invitation(player, true);
         player.rest();
-        player.end()
     }
 
     /// 255 names, 256 and 257; and 257 beside each other refusal of a fetch. Behind a branch, so that
     /// some names are only queued.
-    fn around_the_limit(&mut self, player: &mut Player) {
-        let mut branch = self.fresh(player, 0, 0);
+    fn around_the_limit(&mut self, player: &mut impl Plays) {
+        let mut branch = self.fresh(player.driver(), 0, 0);
         branch.class = Class::Branch;
         branch.branch = true;
-        player.shown(Call::Fetch(branch, player.driver.machine.memory()));
+        let memory = player.driver().machine.memory();
+        player.shown(Call::Fetch(branch, memory));
         self.to_an_invitation(player, true);
-        let known = player.driver.names_with(&self.fresh(player, 0, 0));
+        let known = player
+            .driver()
+            .names_with(&self.fresh(player.driver(), 0, 0));
         let new = 255 - known;
         let reads = new.min(8);
-        let to_255 = self.fetch_fresh(player, reads, new - reads);
+        let to_255 = self.fetch_fresh(player.driver(), reads, new - reads);
         player.shown(to_255);
         self.to_an_invitation(player, true);
-        let two_many = self.fetch_fresh(player, 1, 1);
+        let two_many = self.fetch_fresh(player.driver(), 1, 1);
         player.shown(two_many);
         self.refused_twice(player);
         // One new name, read and written.
-        let mut given = self.fresh(player, 1, 0);
+        let mut given = self.fresh(player.driver(), 1, 0);
         given.sources.push(given.sources[0].clone());
         given.writes = vec![given.sources[0].clone()];
-        player.shown(Call::Fetch(given, player.driver.machine.memory()));
-        let uninvited = self.fetch_fresh(player, 1, 0);
+        player.shown(Call::Fetch(given, memory));
+        let uninvited = self.fetch_fresh(player.driver(), 1, 0);
         player.shown(uninvited);
         player.shown(Call::Start);
-        let inside = self.fetch_fresh(player, 0, 1);
+        let inside = self.fetch_fresh(player.driver(), 0, 1);
         player.shown(inside);
         self.to_an_invitation(player, true);
-        let one_more = self.fetch_fresh(player, 0, 1);
+        let one_more = self.fetch_fresh(player.driver(), 0, 1);
         player.shown(one_more);
-        let mut known = self.fresh(player, 0, 0);
-        known.sources = player.driver.names.iter().take(8).cloned().collect();
-        known.writes = player.driver.names.iter().rev().take(4).cloned().collect();
-        player.shown(Call::Fetch(known, player.driver.machine.memory()));
+        let mut known = self.fresh(player.driver(), 0, 0);
+        known.sources = player.driver().names.iter().take(8).cloned().collect();
+        known.writes = player
+            .driver()
+            .names
+            .iter()
+            .rev()
+            .take(4)
+            .cloned()
+            .collect();
+        player.shown(Call::Fetch(known, memory));
         self.to_an_invitation(player, true);
     }
 
     /// Names full, and something else that refuses.
-    fn refused_twice(&mut self, player: &mut Player) {
-        let memory = player.driver.machine.memory();
-        let given = self.fresh(player, 1, 1);
+    fn refused_twice(&mut self, player: &mut impl Plays) {
+        let memory = player.driver().machine.memory();
+        let given = self.fresh(player.driver(), 1, 1);
         player.shown(Call::Fetch(given.clone(), memory - 1));
         let mut bad = given.clone();
         bad.text = self.bad_text(64);
@@ -84,8 +96,8 @@ impl Generator {
     }
 
     /// An operation with so many new names.
-    fn fresh(&mut self, player: &Player, reads: usize, writes: usize) -> Given {
-        let mut given = self.given(player);
+    fn fresh(&mut self, driver: &Driver, reads: usize, writes: usize) -> Given {
+        let mut given = self.given(driver);
         given.class = *self.rng.pick(&[Class::Alu, Class::Unknown]);
         given.branch = false;
         given.sources = (0..reads).map(|_| self.fresh_name()).collect();
@@ -93,25 +105,25 @@ impl Generator {
         given
     }
 
-    fn fetch_fresh(&mut self, player: &Player, reads: usize, writes: usize) -> Call {
-        let given = self.fresh(player, reads, writes);
-        Call::Fetch(given, player.driver.machine.memory())
+    fn fetch_fresh(&mut self, driver: &Driver, reads: usize, writes: usize) -> Call {
+        let given = self.fresh(driver, reads, writes);
+        Call::Fetch(given, driver.machine.memory())
     }
 
     /// Cycles until an advance invites.
-    fn to_an_invitation(&mut self, player: &mut Player, shown: bool) {
-        while !player.driver.invited {
+    fn to_an_invitation(&mut self, player: &mut impl Plays, shown: bool) {
+        while !player.driver().invited {
             self.cycle(player, shown);
         }
     }
 
     /// To the next advance, with an offer retired.
-    fn cycle(&mut self, player: &mut Player, shown: bool) {
-        let memory = player.driver.machine.memory();
+    fn cycle(&mut self, player: &mut impl Plays, shown: bool) {
+        let memory = player.driver().machine.memory();
         loop {
-            let call = if !player.driver.in_cycle {
+            let call = if !player.driver().in_cycle {
                 Call::Start
-            } else if player.driver.offer.is_some() && !player.driver.retired {
+            } else if player.driver().offer.is_some() && !player.driver().retired {
                 Call::Retire
             } else {
                 Call::Advance(None, memory)
@@ -121,7 +133,7 @@ impl Generator {
             } else {
                 player.quiet(call);
             }
-            if !player.driver.in_cycle {
+            if !player.driver().in_cycle {
                 return;
             }
         }

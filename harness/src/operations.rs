@@ -2,8 +2,8 @@
 
 use crate::call::{Given, Text};
 use crate::capability::PipelineInstructionClass as Class;
+use crate::driver::Driver;
 use crate::generate::{EDGE, Generator, Style};
-use crate::play::Player;
 
 impl Generator {
     fn text(&mut self) -> Text {
@@ -105,7 +105,7 @@ impl Generator {
         ])
     }
 
-    pub fn given(&mut self, player: &Player) -> Given {
+    pub fn given(&mut self, driver: &Driver) -> Given {
         let class = self.class();
         let redirects = matches!(class, Class::Branch | Class::Jump);
         let (reads, writes) = match self.rng.below(20) {
@@ -116,7 +116,7 @@ impl Generator {
             _ => (self.rng.range(0, 3), self.rng.range(0, 2).min(1)),
         };
         let mut given = Given {
-            address: self.own_address(player),
+            address: self.own_address(driver),
             size: match self.rng.below(12) {
                 0 => *self.rng.pick(&EDGE),
                 1 => 0,
@@ -146,7 +146,7 @@ impl Generator {
             },
         };
         if self.style == Style::Wide && self.rng.percent(80) {
-            self.without_waits(player, &mut given);
+            self.without_waits(driver, &mut given);
         }
         given.destination = match self.rng.below(8) {
             0 => None,
@@ -158,19 +158,19 @@ impl Generator {
         given
     }
 
-    fn own_address(&mut self, player: &Player) -> u64 {
+    fn own_address(&mut self, driver: &Driver) -> u64 {
         match self.rng.below(100) {
-            0..92 => player.driver.engine.fetch_pc(),
+            0..92 => driver.engine.fetch_pc(),
             92..96 => self.rng.below(64),
             _ => *self.rng.pick(&EDGE),
         }
     }
 
     /// Nothing to wait for, so that the units fill up; or all wait for the first.
-    fn without_waits(&mut self, player: &Player, given: &mut Given) {
+    fn without_waits(&mut self, driver: &Driver, given: &mut Given) {
         given.sources.clear();
         given.writes.clear();
-        if self.queueing && player.driver.fetches == 0 {
+        if self.queueing && driver.fetches == 0 {
             given.class = Class::Divide;
             given.writes.push(b"x0".to_vec());
         } else if self.queueing {

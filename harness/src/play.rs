@@ -40,6 +40,20 @@ impl Case {
     }
 }
 
+/// What a list is played on while it is made.
+pub trait Plays {
+    fn driver(&self) -> &Driver;
+    /// A call, and then all that the engine shows.
+    fn shown(&mut self, call: Call) -> Answered;
+    /// A call, and its answer alone.
+    fn quiet(&mut self, call: Call) -> Answered;
+    /// At most so many times start and advance, until the advance is refused because of an offer; then
+    /// all that the engine shows.
+    fn idle(&mut self, most: u64);
+    /// All that the engine shows, what no call changes, and every byte of the cell memory.
+    fn rest(&mut self);
+}
+
 /// A machine that was made, and what was played on it so far.
 pub struct Player {
     seed: u64,
@@ -121,8 +135,23 @@ impl Player {
         self.steps.push(step);
     }
 
-    /// A call, and then all that the engine shows.
-    pub fn shown(&mut self, call: Call) -> Answered {
+    pub fn end(self) -> Case {
+        Case {
+            seed: self.seed,
+            machine: self.driver.machine,
+            steps: self.steps,
+            lists: self.lists,
+            coverage: self.driver.coverage,
+        }
+    }
+}
+
+impl Plays for Player {
+    fn driver(&self) -> &Driver {
+        &self.driver
+    }
+
+    fn shown(&mut self, call: Call) -> Answered {
         let mut numbers = Numbers::default();
         let answered = self.call(&call, &mut numbers);
         self.everything(&mut numbers);
@@ -131,17 +160,14 @@ impl Player {
         answered
     }
 
-    /// A call, and its answer alone.
-    pub fn quiet(&mut self, call: Call) -> Answered {
+    fn quiet(&mut self, call: Call) -> Answered {
         let mut numbers = Numbers::default();
         let answered = self.call(&call, &mut numbers);
         self.step(Step::Quiet(call), numbers);
         answered
     }
 
-    /// At most so many times start and advance, until the advance is refused because of an offer; then
-    /// all that the engine shows.
-    pub fn idle(&mut self, most: u64) {
+    fn idle(&mut self, most: u64) {
         let lent = self.driver.machine.memory();
         let mut numbers = Numbers::default();
         let mut cycles = 0;
@@ -154,20 +180,9 @@ impl Player {
         self.step(Step::Idle(cycles, lent), numbers);
     }
 
-    /// All that the engine shows, what no call changes, and every byte of the cell memory.
-    pub fn rest(&mut self) {
+    fn rest(&mut self) {
         let mut numbers = Numbers::default();
         self.all_shown(&mut numbers);
         self.step(Step::Rest, numbers);
-    }
-
-    pub fn end(self) -> Case {
-        Case {
-            seed: self.seed,
-            machine: self.driver.machine,
-            steps: self.steps,
-            lists: self.lists,
-            coverage: self.driver.coverage,
-        }
     }
 }

@@ -1,7 +1,7 @@
 //! The texts that the Rust's views show.
 
 use crate::call::{Field, Given, Place, Request, Text};
-use crate::capability::{PipelineDynamicInspect, PipelineEntryPhase, PipelineInspect};
+use crate::capability::{PipelineDynamicInspect, PipelineInspect, PipelineSlotView};
 use crate::driver::Driver;
 
 impl Driver {
@@ -62,34 +62,26 @@ impl Driver {
             Field::Disassembly => Some(bytes(slot.disassembly)),
             Field::Destination => slot.destination.map(bytes),
             Field::Source(at) if at < 2 => slot.sources[at as usize].map(bytes),
-            Field::Fault => self.held_at(place).fault.clone(),
-            Field::Source(at) => self.held_at(place).sources.get(at as usize).cloned(),
-            Field::Write(at) => self.held_at(place).writes.get(at as usize).cloned(),
+            Field::Fault => self.held(slot).fault.clone(),
+            Field::Source(at) => self.held(slot).sources.get(at as usize).cloned(),
+            Field::Write(at) => self.held(slot).writes.get(at as usize).cloned(),
         }
     }
 
-    /// The operation that a place shows, where what the Rust shows tells which one it is.
-    fn held_at(&self, place: Place) -> &Given {
-        let in_phase = |phase: PipelineEntryPhase| {
-            move |at: &usize| self.engine.station(*at).expect("counted").phase == phase
+    /// The operation that is shown: the queued one, or the one in a unit, whose text stands in memory
+    /// where the shown one stands.
+    fn held(&self, slot: PipelineSlotView) -> &Given {
+        let text = slot.disassembly.as_ptr();
+        let same = |other: Option<PipelineSlotView>| {
+            other.is_some_and(|other| other.disassembly.as_ptr() == text)
         };
-        match place {
-            Place::Queue(at) => &self.queue[at as usize].1,
-            Place::Stage(0) => &self.queue[0].1,
-            Place::Station(at) => &self.units[at as usize].as_ref().expect("followed").1,
-            Place::Unit(kind) => self.oldest(|at| {
-                let station = self.engine.station(*at).expect("counted");
-                station.unit as u64 == kind && station.tag.is_some()
-            }),
-            Place::Stage(3) => self.oldest(in_phase(PipelineEntryPhase::Executing)),
-            Place::Stage(4) => self.oldest(in_phase(PipelineEntryPhase::Finished)),
-            place => panic!("{place:?} does not tell the operation"),
+        let mut queued = (0..self.queue.len()).filter(|at| same(self.engine.queued(*at)));
+        if let Some(at) = queued.next() {
+            return &self.queue[at].1;
         }
-    }
-
-    fn oldest(&self, passes: impl Fn(&usize) -> bool) -> &Given {
-        let units = (0..self.units.len()).filter(passes);
-        let held = units.map(|at| self.units[at].as_ref().expect("followed"));
-        &held.min_by_key(|(number, _)| *number).expect("shown").1
+        let station = |at: usize| self.engine.station(at).expect("counted");
+        let mut units = (0..self.units.len()).filter(|at| same(station(*at).slot));
+        let at = units.next().expect("shown");
+        &self.units[at].as_ref().expect("followed").1
     }
 }
