@@ -9,7 +9,7 @@ impl Generator {
     /// Any call at all.
     pub fn any_call(&mut self, driver: &Driver) -> Call {
         let lent = self.lent(driver);
-        let stops = self.style != Style::Rows;
+        let stops = !matches!(self.style, Style::Rows | Style::History);
         match self.rng.below(64) {
             0..3 => Call::Start,
             3..6 => Call::Retire,

@@ -25,6 +25,10 @@ impl Coverage {
         *self.counts.entry(what.into()).or_default() += 1;
     }
 
+    pub fn has(&self, what: &str) -> bool {
+        self.counts.contains_key(what)
+    }
+
     pub fn most(&mut self, what: &'static str, number: u64) {
         let most = self.most.entry(what).or_default();
         *most = (*most).max(number);

@@ -1,7 +1,7 @@
 //! Random lists of calls. A list is played while it is made, as a driver would play it (start, retire
 //! or retry, advance, fetch when invited), with calls of every kind thrown in, taken and refused ones.
 
-use crate::call::Call;
+use crate::call::{Call, Machine};
 use crate::driver::Driver;
 use crate::play::{Case, Plays, make};
 use crate::rng::Rng;
@@ -25,6 +25,8 @@ pub enum Style {
     Names,
     /// A longer history, and more fetches than it holds.
     Rows,
+    /// A history of 256 rows or near it, and more fetches than it holds.
+    History,
     /// A machine around the limits, mostly refused.
     Limits,
 }
@@ -48,6 +50,8 @@ pub struct Generator {
     pub fresh: u64,
     /// Where the retired branch went, if elsewhere.
     redirect: Option<u64>,
+    /// How many times as long as a list for the model; 0 is for the model.
+    pub scale: u64,
 }
 
 /// What comes next: a call, or at most so many times start and advance.
@@ -83,6 +87,30 @@ pub fn generate(seed: u64) -> Case {
     }
 }
 
+/// A machine and what plays on it, from a seed, for a list of bytes: nothing is left out for its cost.
+pub fn for_bytes(seed: u64, scale: u64) -> (Machine, Generator) {
+    let mut rng = Rng::new(seed);
+    let style = match rng.below(100) {
+        0..20 => Style::Small,
+        20..32 => Style::Busy,
+        32..42 => Style::Odd,
+        42..58 => Style::Medium,
+        58..68 => Style::Wide,
+        68..78 => Style::Long,
+        78..82 => Style::Names,
+        82..86 => Style::Rows,
+        86..90 => Style::History,
+        _ => Style::Limits,
+    };
+    let mut generator = Generator::new(rng, style);
+    let machine = generator.machine();
+    generator.scale = scale;
+    if style == Style::Wide {
+        generator.disturbance = *generator.rng.pick(&[2, 6, 12, 25]);
+    }
+    (machine, generator)
+}
+
 impl Generator {
     fn new(mut rng: Rng, style: Style) -> Self {
         let mut generator = Self {
@@ -98,9 +126,10 @@ impl Generator {
             style,
             fresh: 0,
             redirect: None,
+            scale: 0,
         };
         match style {
-            Style::Wide | Style::Rows => {
+            Style::Wide | Style::Rows | Style::History => {
                 generator.pool = 40;
                 generator.disturbance = 2;
                 generator.branches = generator.rng.below(2);
@@ -145,12 +174,14 @@ impl Generator {
             Style::Long => self.rng.range(20, 45),
             Style::Names => 0,
             Style::Rows => self.rng.range(120, 180),
+            Style::History => self.rng.range(300, 1800),
             Style::Limits => self.rng.range(5, 30),
         };
-        if self.rng.percent(88) || matches!(self.style, Style::Busy | Style::Rows) {
+        let overlaps = matches!(self.style, Style::Busy | Style::Rows | Style::History);
+        if self.rng.percent(88) || overlaps {
             player.shown(Call::Overlap(true));
         }
-        for _ in 0..calls {
+        for _ in 0..calls * self.scale.max(1) {
             let next = if self.rng.percent(self.disturbance) {
                 Next::Call(self.any_call(player.driver()))
             } else {
@@ -169,6 +200,7 @@ impl Generator {
         let quiet = match self.style {
             Style::Wide => 90,
             Style::Rows => 92,
+            Style::History => 98,
             _ => 0,
         };
         let answered = if self.rng.percent(quiet) {

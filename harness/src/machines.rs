@@ -36,6 +36,7 @@ impl Generator {
         let stages = self.stages();
         let history = match self.style {
             Style::Rows => self.rng.range(12, 20),
+            Style::History => *self.rng.pick(&[255, 256, 256, 256]),
             Style::Long => self.rng.range(0, 2),
             Style::Wide => *self.rng.pick(&[1, 2, 4]),
             _ => *self.rng.pick(&[0, 1, 1, 1, 2, 2, 2, 2, 3, 3, 3, 4, 4, 7]),
@@ -73,7 +74,7 @@ impl Generator {
             Style::Long | Style::Limits => self.rng.below(4),
             Style::Medium => self.rng.range(2, 5),
             Style::Wide => *self.rng.pick(&[1, 1, 2, 3, 7, 16]),
-            Style::Busy | Style::Names | Style::Rows => 1,
+            Style::Busy | Style::Names | Style::Rows | Style::History => 1,
         };
         let mut left = match self.style {
             Style::Wide => 64,
@@ -87,7 +88,7 @@ impl Generator {
             let capacity = match self.style {
                 Style::Wide if others == 0 => most,
                 Style::Wide => self.rng.range(0, (2 * most / (others + 1)).min(most)),
-                Style::Rows | Style::Names => self.rng.range(3, 5).min(most),
+                Style::Rows | Style::Names | Style::History => self.rng.range(3, 5).min(most),
                 Style::Small if kinds == 1 => self.rng.range(2, 6),
                 Style::Busy => self.rng.range(5, 7),
                 _ => self.rng.range(0, 4).min(most),
@@ -129,7 +130,7 @@ impl Generator {
                 .pick(&[0, 1, 120, 190, 253, 254, 255, u64::MAX - 1]),
             Style::Wide if self.queueing => *self.rng.pick(&[0, 0, 1, 200]),
             Style::Wide => *self.rng.pick(&[20, 90, 120, 200]),
-            Style::Rows | Style::Names => 0,
+            Style::Rows | Style::Names | Style::History => 0,
             Style::Busy => *self.rng.pick(&[0, 0, 1, 4, 9, 14]),
             _ => *self.rng.pick(&[0, 0, 0, 1, 2, 3, 5, 8]),
         });
@@ -156,8 +157,10 @@ impl Generator {
             b"WR",
             b"~\"\\x",
         ];
-        let one_for_all = matches!(self.style, Style::Busy | Style::Rows | Style::Names)
-            || self.style == Style::Small && self.rng.percent(50);
+        let one_for_all = matches!(
+            self.style,
+            Style::Busy | Style::Rows | Style::Names | Style::History
+        ) || self.style == Style::Small && self.rng.percent(50);
         let classes = match self.rng.below(8) {
             _ if one_for_all => 0,
             0..3 => 0,

@@ -3,21 +3,33 @@
 
 mod ask;
 mod call;
+mod compare;
 mod coverage;
+mod decode;
 mod driver;
+mod encode;
+mod ends;
 mod everything;
 mod find;
 mod generate;
+mod lay;
+mod layout;
 mod machines;
+mod maker;
 mod names;
 mod numbers;
 mod operations;
+mod ours;
 mod play;
+mod reference;
 mod refuse;
 mod rng;
 mod shape;
+mod show;
+mod tally;
 mod terms;
 mod texts;
+mod trial;
 mod views;
 mod waits;
 mod wanted;
@@ -27,7 +39,16 @@ include!(concat!(env!("OUT_DIR"), "/raven.rs"));
 
 use std::process::ExitCode;
 
+use ours::Ours;
+
+/// The work runs on a thread with a large stack.
 fn main() -> ExitCode {
+    let thread = std::thread::Builder::new().stack_size(256 << 20);
+    let thread = thread.spawn(run).expect("a thread");
+    thread.join().unwrap_or(ExitCode::FAILURE)
+}
+
+fn run() -> ExitCode {
     let words: Vec<String> = std::env::args().skip(1).collect();
     let words: Vec<&str> = words.iter().map(String::as_str).collect();
     let number = |word: &str| word.parse::<u64>().ok();
@@ -47,6 +68,22 @@ fn main() -> ExitCode {
                 (number(seed), number(pool), number(count))
             {
                 return write::choose(seed, pool, count, folder);
+            }
+        }
+        ["compare", seed, count] => {
+            if let (Some(seed), Some(count)) = (number(seed), number(count)) {
+                let Some(ours) = Ours::linked() else {
+                    eprintln!("no archive was linked: see build.rs");
+                    return ExitCode::from(2);
+                };
+                return compare::compare(ours, seed, count);
+            }
+        }
+        ["fault", fault, seed, count] => {
+            if let (Some(fault), Some(seed), Some(count)) =
+                (number(fault), number(seed), number(count))
+            {
+                return compare::compare(Ours::Fault(fault), seed, count);
             }
         }
         ["find", seed, folder] => {
@@ -75,6 +112,8 @@ fn main() -> ExitCode {
     eprintln!(
         "harness coverage SEED COUNT              plays COUNT lists and says what they reached"
     );
+    eprintln!("harness compare SEED COUNT               compares calls_play with the Rust");
+    eprintln!("harness fault FAULT SEED COUNT           the same with a fault put in (ours.rs)");
     eprintln!("harness find SEED FOLDER [NUMBER]        for find.sh");
     eprintln!("harness at SEED NUMBER PLACE             for find.sh");
     ExitCode::from(2)

@@ -27,6 +27,12 @@ impl Generator {
         }
         let again = self.fetch_fresh(player.driver(), 1, 1);
         player.shown(again);
+        for _ in 0..20 * self.scale {
+            let call = self.any_call(player.driver());
+            if !matches!(call, Call::Reset(..) | Call::Redirect(_)) {
+                player.shown(call);
+            }
+        }
         player.shown(Call::Redirect(64));
         self.to_an_invitation(player, true);
         let taken = self.fetch_fresh(player.driver(), 8, 4);

@@ -1,0 +1,163 @@
+//! Lists at the ends of the form: one of each call, cut at every byte and with every byte changed; the
+//! longest list, and one byte more.
+
+use crate::call::{Call, Field, Given, Kind, Machine, Place, Request, View};
+use crate::capability::{PipelineInstructionClass as Class, PipelineStageRole as Role};
+use crate::encode;
+use crate::layout::{CALLS, LIST, MACHINE};
+use crate::rng::Rng;
+use crate::trial::Trial;
+
+/// Two kinds, three units, a queue of 2, two rows.
+pub fn machine() -> Machine {
+    let kind = |name: &[u8], classes: &[Class], capacity| Kind {
+        name: name.to_vec(),
+        classes: classes.to_vec(),
+        latency_class: Class::Alu,
+        capacity,
+    };
+    Machine {
+        stages: vec![Role::Fetch, Role::Decode, Role::Execute],
+        instruction_bytes: None,
+        extras: [0, 2, 19, 0, 0, 9, 4],
+        kinds: vec![kind(b"MUL", &[Class::Multiply], 1), kind(b"EX", &[], 2)],
+        history: 2,
+        entry: 0,
+        lent: 400,
+    }
+}
+
+/// An operation that reads x1 and writes x2.
+pub fn operation() -> Given {
+    Given {
+        address: 16,
+        size: 4,
+        class: Class::Multiply,
+        branch: false,
+        atomic: false,
+        text: b"mul x2, x1".to_vec(),
+        fault: Some(b"note".to_vec()),
+        destination: Some(b"x2".to_vec()),
+        sources: vec![b"x1".to_vec()],
+        writes: vec![b"x2".to_vec()],
+        payload: 5,
+    }
+}
+
+/// A call for each byte, in an order in which most are taken.
+pub fn one_of_each() -> Vec<Call> {
+    let mut calls = vec![
+        Call::Overlap(true),
+        Call::Capacity(1, 3),
+        Call::Start,
+        Call::Advance(None, 400),
+        Call::Fetch(operation(), 400),
+        Call::Start,
+        Call::Retire,
+        Call::Retry(b"later".to_vec()),
+        Call::Resolve(20),
+        Call::Advance(Some(64), 400),
+        Call::Text(Request::StatusMessage, 6),
+    ];
+    calls.extend(views().map(Call::View));
+    calls.push(Call::Cell(0, 0, 400));
+    calls.extend(requests().map(|request| Call::Text(request, 12)));
+    calls.extend([
+        Call::Halt,
+        Call::Fault(b"broken".to_vec()),
+        Call::Redirect(8),
+        Call::Reset(0, 400),
+    ]);
+    calls
+}
+
+fn views() -> [View; 26] {
+    [
+        View::Status,
+        View::Stats,
+        View::Enabled,
+        View::FetchPc,
+        View::ResumePc,
+        View::StageCount,
+        View::Edges,
+        View::EntryStages,
+        View::StageOrder,
+        View::UnitCount,
+        View::TraceCount,
+        View::TimelineLen,
+        View::StationCount,
+        View::RenameCount,
+        View::QueueCount,
+        View::BufferCount,
+        View::BufferCapacity,
+        View::InFlightBefore(1),
+        View::Stage(1),
+        View::Unit(0),
+        View::Trace(0),
+        View::TimelineRow(0),
+        View::Station(0),
+        View::Rename(0),
+        View::Queued(0),
+        View::BufferEntry(0),
+    ]
+}
+
+fn requests() -> [Request; 9] {
+    [
+        Request::Slot(Place::Station(0), Field::Write(0)),
+        Request::TraceDetail(0),
+        Request::RowDisassembly(0),
+        Request::StageName(2),
+        Request::UnitName(0),
+        Request::StationLabel(1),
+        Request::RenameRegister(0),
+        Request::CellLabel(8),
+        Request::OperandRegister(0, 0),
+    ]
+}
+
+/// All of them, some 20,000.
+pub fn trials(seed: u64) -> impl Iterator<Item = (String, Trial)> {
+    let list = encode::list(&machine(), &one_of_each());
+    let trial = |name: String, list: Vec<u8>| {
+        let trial = Trial {
+            list,
+            cells: 400,
+            spare: 0,
+        };
+        (name, trial)
+    };
+    let whole = list.clone();
+    let cuts = (0..=list.len()).map(move |at| (format!("cut at {at}"), whole[..at].to_vec()));
+    let mut rng = Rng::new(seed);
+    let changes = (0..list.len()).flat_map(move |at| {
+        let other = rng.below(256) as u8;
+        let list = list.clone();
+        [0, 1, 2, 8, 10, 17, 49, 65, 255, other].map(move |byte| {
+            let mut changed = list.clone();
+            changed[at] = byte;
+            (format!("byte {at} changed to {byte}"), changed)
+        })
+    });
+    let longest = [
+        ("the longest list", LIST),
+        ("a byte more", LIST + 1),
+        ("a byte less", LIST - 1),
+    ];
+    let longest = longest.map(|(name, size)| (name.to_string(), long(size)));
+    let empty = [("nothing at all".to_string(), Vec::new())];
+    let all = empty.into_iter().chain(cuts).chain(changes).chain(longest);
+    all.map(move |(name, list)| trial(name, list))
+}
+
+/// A list of so many bytes: fetches that are refused, and starts.
+fn long(size: usize) -> Vec<u8> {
+    let mut list = encode::list(&machine(), &[]);
+    let fetch = encode::call(&Call::Fetch(operation(), 400));
+    while list.len() + fetch.len() <= size {
+        list.extend(&fetch);
+    }
+    list.resize(size, 0);
+    assert!(list.len() >= MACHINE && CALLS[0].size == 1);
+    list
+}
