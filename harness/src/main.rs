@@ -2,6 +2,8 @@
 //! held against. docs/SAMPLES.md says what is compared and how to make more.
 
 mod ask;
+mod bare;
+mod bench;
 mod call;
 mod compare;
 mod coverage;
@@ -72,11 +74,13 @@ fn run() -> ExitCode {
         }
         ["compare", seed, count] => {
             if let (Some(seed), Some(count)) = (number(seed), number(count)) {
-                let Some(ours) = Ours::linked() else {
-                    eprintln!("no archive was linked: see build.rs");
-                    return ExitCode::from(2);
-                };
-                return compare::compare(ours, seed, count);
+                return with_archive(|ours| compare::compare(ours, seed, count));
+            }
+        }
+        ["bench"] => return with_archive(|ours| bench::bench(ours, 20_000, 9)),
+        ["bench", cycles, rounds] => {
+            if let (Some(cycles), Some(rounds)) = (number(cycles), number(rounds)) {
+                return with_archive(|ours| bench::bench(ours, cycles, rounds));
             }
         }
         ["fault", fault, seed, count] => {
@@ -113,10 +117,19 @@ fn run() -> ExitCode {
         "harness coverage SEED COUNT              plays COUNT lists and says what they reached"
     );
     eprintln!("harness compare SEED COUNT               compares calls_play with the Rust");
+    eprintln!("harness bench [CYCLES ROUNDS]            measures calls_play and the Rust");
     eprintln!("harness fault FAULT SEED COUNT           the same with a fault put in (ours.rs)");
     eprintln!("harness find SEED FOLDER [NUMBER]        for find.sh");
     eprintln!("harness at SEED NUMBER PLACE             for find.sh");
     ExitCode::from(2)
+}
+
+fn with_archive(work: impl FnOnce(Ours) -> ExitCode) -> ExitCode {
+    let Some(ours) = Ours::linked() else {
+        eprintln!("no archive was linked: see build.rs");
+        return ExitCode::from(2);
+    };
+    work(ours)
 }
 
 fn coverage(seed: u64, count: u64) -> ExitCode {
