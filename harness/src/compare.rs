@@ -150,6 +150,19 @@ pub fn list(seed: u64, rng: &mut Rng) -> Vec<u8> {
     encode::list(&machine, &maker.calls)
 }
 
+/// A shorter one, with some views and texts.
+pub fn small_list(seed: u64) -> Vec<u8> {
+    let mut rng = Rng::new(seed ^ 0x5EED);
+    let (machine, generator) = for_bytes(seed, 0);
+    if !make_refusals(&machine).is_empty() {
+        return refused(&machine, &mut rng);
+    }
+    let density = *rng.pick(&[5, 20, 60]);
+    let mut maker = Maker::new(&machine, Rng::new(rng.next()), density, 1500);
+    generator.play_on(&mut maker);
+    encode::list(&machine, &maker.calls)
+}
+
 /// A machine that is refused, and any calls.
 fn refused(machine: &Machine, rng: &mut Rng) -> Vec<u8> {
     let each = ends::one_of_each();

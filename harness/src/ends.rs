@@ -71,6 +71,47 @@ pub fn one_of_each() -> Vec<Call> {
     calls
 }
 
+/// Case W of document 01: a multiply that writes x2, one that reads x2 and x1, one that writes x1.
+pub fn case_w() -> (Machine, Vec<Call>) {
+    let mut machine = machine();
+    machine.extras = [0, 2, 0, 0, 0, 0, 0];
+    machine.kinds = vec![Kind {
+        name: b"EX".to_vec(),
+        classes: Vec::new(),
+        latency_class: Class::Alu,
+        capacity: 3,
+    }];
+    machine.history = 3;
+    machine.lent = 600;
+    let op = |at: u64, class, text: &[u8], reads: &[&[u8]], writes: &[&[u8]]| Given {
+        address: 4 * at,
+        class,
+        text: text.to_vec(),
+        fault: None,
+        destination: None,
+        sources: reads.iter().map(|name| name.to_vec()).collect(),
+        writes: writes.iter().map(|name| name.to_vec()).collect(),
+        payload: at,
+        ..operation()
+    };
+    let mut operations = [
+        op(0, Class::Multiply, b"a", &[], &[b"x2"]),
+        op(1, Class::Alu, b"b", &[b"x2", b"x1"], &[]),
+        op(2, Class::Alu, b"c", &[], &[b"x1"]),
+    ]
+    .into_iter();
+    let mut calls = vec![Call::Overlap(true)];
+    for cycle in 1..=13 {
+        calls.push(Call::Start);
+        if [8, 11, 12].contains(&cycle) {
+            calls.push(Call::Retire);
+        }
+        calls.push(Call::Advance(None, 600));
+        calls.extend(operations.next().map(|given| Call::Fetch(given, 600)));
+    }
+    (machine, calls)
+}
+
 fn views() -> [View; 26] {
     [
         View::Status,

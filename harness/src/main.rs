@@ -32,6 +32,7 @@ mod tally;
 mod terms;
 mod texts;
 mod trial;
+mod vectors;
 mod views;
 mod waits;
 mod wanted;
@@ -83,6 +84,7 @@ fn run() -> ExitCode {
                 return with_archive(|ours| bench::bench(ours, cycles, rounds));
             }
         }
+        ["vectors", folder] => return vectors::vectors(folder),
         ["fault", fault, seed, count] => {
             if let (Some(fault), Some(seed), Some(count)) =
                 (number(fault), number(seed), number(count))
@@ -118,6 +120,7 @@ fn run() -> ExitCode {
     );
     eprintln!("harness compare SEED COUNT               compares calls_play with the Rust");
     eprintln!("harness bench [CYCLES ROUNDS]            measures calls_play and the Rust");
+    eprintln!("harness vectors FOLDER                   writes the lists of the crate vectors");
     eprintln!("harness fault FAULT SEED COUNT           the same with a fault put in (ours.rs)");
     eprintln!("harness find SEED FOLDER [NUMBER]        for find.sh");
     eprintln!("harness at SEED NUMBER PLACE             for find.sh");

@@ -149,6 +149,24 @@ impl Tally {
         }
     }
 
+    /// What was reached, for a choice of lists.
+    pub fn reached(&self) -> Vec<String> {
+        let mut list: Vec<String> = self.whole.keys().cloned().collect();
+        list.extend(self.all.reached().into_iter().map(|(what, _)| what));
+        for (byte, row) in CALLS.iter().enumerate() {
+            let answers = self.answers[byte].iter().enumerate();
+            let answers = answers.filter(|(_, count)| **count > 0);
+            list.extend(answers.map(|(number, _)| format!("{}: {number}", row.name)));
+            if self.nothing[byte] > 0 {
+                list.push(format!("{}: nothing", row.name));
+            }
+            let states = STATES.iter().zip(self.states[byte]);
+            let states = states.filter(|(_, count)| *count > 0);
+            list.extend(states.map(|(state, _)| format!("{}, {state}", row.name)));
+        }
+        list
+    }
+
     /// What should have been reached, and was not.
     pub fn missing(&self) -> Vec<String> {
         let mut missing = Vec::new();
