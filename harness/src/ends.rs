@@ -1,5 +1,5 @@
-//! Lists at the ends of the form: one of each call, cut at every byte and with every byte changed; the
-//! longest list, and one byte more.
+//! Lists at the ends of the form: one of each call, cut at every byte and with every byte changed;
+//! machines at each limit and past it; the longest room for a text, the longest list, and one more.
 
 use crate::call::{Call, Field, Given, Kind, Machine, Place, Request, View};
 use crate::capability::{PipelineInstructionClass as Class, PipelineStageRole as Role};
@@ -157,7 +157,7 @@ fn requests() -> [Request; 9] {
     ]
 }
 
-/// All of them, some 20,000.
+/// All of them, some 18,000.
 pub fn trials(seed: u64) -> impl Iterator<Item = (String, Trial)> {
     let list = encode::list(&machine(), &one_of_each());
     let trial = |name: String, list: Vec<u8>| {
@@ -188,7 +188,84 @@ pub fn trials(seed: u64) -> impl Iterator<Item = (String, Trial)> {
     let longest = longest.map(|(name, size)| (name.to_string(), long(size)));
     let empty = [("nothing at all".to_string(), Vec::new())];
     let all = empty.into_iter().chain(cuts).chain(changes).chain(longest);
+    let all = all.chain(rooms()).chain(machines());
     all.map(move |(name, list)| trial(name, list))
+}
+
+/// The longest room for each text, and one more.
+fn rooms() -> impl Iterator<Item = (String, Vec<u8>)> {
+    let texts = requests().into_iter().chain([Request::StatusMessage]);
+    texts.flat_map(|request| {
+        [65_535, 65_536, 1 << 32, u64::MAX].map(|room| {
+            let call = Call::Text(request, room);
+            let list = encode::list(&machine(), &[Call::Halt, call]);
+            (format!("{request:?} with room {room}"), list)
+        })
+    })
+}
+
+/// Machines at each limit and past it, alone and two at a time.
+fn machines() -> impl Iterator<Item = (String, Vec<u8>)> {
+    let limits = limits();
+    let pairs = (0..limits.len()).flat_map(|a| (a..limits.len()).map(move |b| (a, b)));
+    let pairs: Vec<_> = pairs.collect();
+    pairs.into_iter().map(move |(a, b)| {
+        let mut machine = machine();
+        limits[a](&mut machine);
+        limits[b](&mut machine);
+        let list = encode::list(&machine, &one_of_each());
+        (format!("limits {a} and {b}"), list)
+    })
+}
+
+type Limit = Box<dyn Fn(&mut Machine)>;
+
+fn limits() -> Vec<Limit> {
+    let mut list: Vec<Limit> = Vec::new();
+    for history in [0, 1, 2, 3, 255, 256, 257, 1 << 32, u64::MAX] {
+        list.push(Box::new(move |machine| machine.history = history));
+    }
+    for lent in [0, 199, 200, 399, 400] {
+        list.push(Box::new(move |machine| machine.lent = lent));
+    }
+    for count in [0, 1, 15, 16, 17, 255] {
+        list.push(Box::new(move |machine| {
+            machine.stages.resize(count, Role::Other);
+        }));
+        list.push(Box::new(move |machine| {
+            let kind = machine.kinds.last().cloned();
+            let kind = kind.unwrap_or_else(|| crate::ends::machine().kinds[0].clone());
+            machine.kinds.resize(count, kind);
+        }));
+    }
+    for capacity in [0, 48, 62, 63, 64, 65, 1 << 63, u64::MAX] {
+        list.push(Box::new(move |machine| {
+            if let Some(kind) = machine.kinds.first_mut() {
+                kind.capacity = capacity;
+            }
+        }));
+    }
+    for name in [
+        &b""[..],
+        b"12345678",
+        b"123456789",
+        b" ",
+        b"\x1f",
+        b"~",
+        b"\x7f",
+        b"a\0",
+    ] {
+        list.push(Box::new(move |machine| {
+            if let Some(kind) = machine.kinds.last_mut() {
+                kind.name = name.to_vec();
+            }
+        }));
+    }
+    for at in 0..7 {
+        list.push(Box::new(move |machine| machine.extras[at] = u64::MAX));
+        list.push(Box::new(move |machine| machine.extras[at] = u64::MAX - 1));
+    }
+    list
 }
 
 /// A list of so many bytes: fetches that are refused, and starts.

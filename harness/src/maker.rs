@@ -103,7 +103,13 @@ impl Maker {
         (0..=count as u64).chain([far])
     }
 
+    /// The texts of an operation; where a place shows none, only a few are asked for.
     fn slot_texts(&mut self, place: Place) {
+        if self.driver.slot_text(place, Field::Disassembly).is_none() && self.rng.below(10) > 0 {
+            let fields = [Field::Disassembly, Field::Fault, Field::Source(0)];
+            let field = *self.rng.pick(&fields);
+            return self.text(Request::Slot(place, field));
+        }
         for field in [Field::Disassembly, Field::Destination, Field::Fault] {
             self.text(Request::Slot(place, field));
         }

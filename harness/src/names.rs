@@ -33,7 +33,11 @@ impl Generator {
                 player.shown(call);
             }
         }
-        player.shown(Call::Redirect(64));
+        if self.scale > 0 && self.rng.percent(50) {
+            player.shown(Call::Reset(64, player.driver().machine.memory()));
+        } else {
+            player.shown(Call::Redirect(64));
+        }
         self.to_an_invitation(player, true);
         let taken = self.fetch_fresh(player.driver(), 8, 4);
         player.shown(taken);
