@@ -26,7 +26,7 @@ fn now() -> u64 {
 }
 
 /// The machine of `forecast`, with so many units and rows.
-fn machine(units: u64, history: u64) -> Machine {
+pub fn machine(units: u64, history: u64) -> Machine {
     Machine {
         stages: vec![Role::Fetch, Role::Decode, Role::Execute],
         instruction_bytes: None,
@@ -83,7 +83,7 @@ fn dependent(class: Class, names: u64) -> Vec<Given> {
 }
 
 /// None waits for another: the lower half of the names is written, the upper half read.
-fn independent(names: u64) -> Vec<Given> {
+pub fn independent(names: u64) -> Vec<Given> {
     let half = names / 2;
     let each = (0..half).map(|at| operation(Class::Alu, &[half + at], &[at]));
     each.collect()
@@ -149,12 +149,12 @@ fn cases() -> Vec<Case> {
 }
 
 /// So many cycles: start, retire what is offered, advance, fetch when invited.
-fn list(case: &Case, cycles: u64) -> Vec<u8> {
-    let lent = case.machine.lent;
-    let mut engine = bare::engine(&case.machine);
+pub fn run(machine: &Machine, program: &[Given], cycles: u64) -> Vec<Call> {
+    let lent = machine.lent;
+    let mut engine = bare::engine(machine);
     engine.set_enabled(true);
     let mut calls = vec![Call::Overlap(true)];
-    let mut program = case.program.iter().cycle();
+    let mut program = program.iter().cycle();
     for _ in 0..cycles {
         calls.push(Call::Start);
         if let Some(op) = engine.start_cycle() {
@@ -170,7 +170,7 @@ fn list(case: &Case, cycles: u64) -> Vec<u8> {
         }
     }
     assert_eq!(engine.stats().cycles, cycles);
-    encode::list(&case.machine, &calls)
+    calls
 }
 
 fn op_of(given: &Given) -> PipelineOp<u64> {
@@ -206,7 +206,8 @@ pub fn bench(ours: Ours, cycles: u64, rounds: u64) -> ExitCode {
 }
 
 fn measure(ours: Ours, case: &Case, cycles: u64, rounds: u64) {
-    let list = list(case, cycles);
+    let calls = run(&case.machine, &case.program, cycles);
+    let list = encode::list(&case.machine, &calls);
     let totals = totals(&list).expect("of its form");
     let mut cells = vec![0; totals.lent as usize];
     let mut own = vec![0; totals.size];

@@ -149,10 +149,9 @@ impl Tally {
         }
     }
 
-    /// What was reached, for a choice of lists.
-    pub fn reached(&self) -> Vec<String> {
+    /// What was reached, with a weight: to choose lists that reach much.
+    pub fn reached(&self) -> Vec<(String, u64)> {
         let mut list: Vec<String> = self.whole.keys().cloned().collect();
-        list.extend(self.all.reached().into_iter().map(|(what, _)| what));
         for (byte, row) in CALLS.iter().enumerate() {
             let answers = self.answers[byte].iter().enumerate();
             let answers = answers.filter(|(_, count)| **count > 0);
@@ -164,6 +163,8 @@ impl Tally {
             let states = states.filter(|(_, count)| *count > 0);
             list.extend(states.map(|(state, _)| format!("{}, {state}", row.name)));
         }
+        let mut list: Vec<(String, u64)> = list.into_iter().map(|what| (what, 5)).collect();
+        list.extend(self.all.reached());
         list
     }
 

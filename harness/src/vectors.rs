@@ -3,7 +3,7 @@
 //! data/lists is: a number, how many lists; then for each list a head of 48 bytes and its bytes. A head
 //! is a name (16 bytes, spaces at its end) and four numbers: the bytes of the list, of the cell memory
 //! and of `out`, and the bytes of a block. Before the call the cell memory is all 19 and `out` all 7.
-//! stdout has a line for each list: its name, the number answered, the digest of the cell memory, and
+//! stdout has a line for each list: its name as in the head, the number answered, the digest of the cell memory, and
 //! the digest of each block of `out`. The digest of a block of one byte is that byte.
 
 use std::collections::BTreeSet;
@@ -12,7 +12,8 @@ use std::path::Path;
 use std::process::ExitCode;
 use std::{fs, io};
 
-use crate::call::{Call, Machine};
+use crate::bench;
+use crate::call::{Call, Machine, View};
 use crate::compare::small_list;
 use crate::decode::totals;
 use crate::encode;
@@ -23,7 +24,7 @@ use crate::tally::Tally;
 /// The most bytes of a list, of the cell memory and of `out`.
 const MOST: (usize, usize, usize) = (131_072, 51_328, 262_144);
 /// The bytes of all lists chosen from seeds.
-const ALL: usize = 700_000;
+const ALL: usize = 600_000;
 
 struct Vector {
     name: String,
@@ -69,7 +70,7 @@ impl Vector {
         let mut cells = vec![19; self.cells];
         let mut out = vec![7; self.out];
         let answer = reference::play(&self.list, &mut cells, &mut out, tally);
-        let mut line = format!("{} {answer} {}", self.name, digest(&cells));
+        let mut line = format!("{:16} {answer} {}", self.name, digest(&cells));
         for block in out.chunks(self.block) {
             let _ = write!(line, " {}", digest(block));
         }
@@ -115,7 +116,8 @@ fn write(vectors: &[Vector], folder: &Path) -> io::Result<()> {
         lists.len(),
         lines.len()
     );
-    for what in tally.missing() {
+    let missing = tally.missing().into_iter();
+    for what in missing.filter(|what| !what.ends_with("16777216 bytes")) {
         println!("not reached: {what}");
     }
     Ok(())
@@ -151,6 +153,13 @@ fn forms() -> Vec<Vector> {
         Vector::new("history-257", with(|machine| machine.history = 257)),
         Vector::new("no-name", with(|machine| machine.kinds[1].name.clear())),
         Vector::new("extra", with(|machine| machine.extras[6] = u64::MAX)),
+        Vector::new(
+            "extra-and-lent",
+            with(|machine| {
+                machine.extras[2] = u64::MAX;
+                machine.lent = 399;
+            }),
+        ),
         Vector::new("lent-399", with(|machine| machine.lent = 399)),
         Vector::new(
             "all-three",
@@ -170,7 +179,19 @@ fn forms() -> Vec<Vector> {
     both.out = 0;
     vectors.extend([short, cells, both]);
     vectors.push(case_w());
+    vectors.push(rows());
     vectors
+}
+
+/// More fetches than a history of 256 rows holds: the oldest rows go.
+fn rows() -> Vector {
+    let machine = bench::machine(2, 256);
+    let mut calls = bench::run(&machine, &bench::independent(16), 520);
+    for at in [0, 1, 254, 255, 256] {
+        calls.push(Call::View(View::TimelineRow(at)));
+        calls.extend([0, 3, 4, 5, 6].map(|cell| Call::Cell(at, cell, machine.lent)));
+    }
+    Vector::new("rows", encode::list(&machine, &calls))
 }
 
 /// Case W of document 01: the totals and the rows after it.
@@ -188,7 +209,7 @@ fn case_w() -> Vector {
 /// Of the lists that seeds make those that together reach much for their size.
 fn chosen() -> Vec<Vector> {
     let made = (1..=1500).map(|seed| Vector::new(format!("seed-{seed}"), small_list(seed)));
-    let mut rest: Vec<(Vector, Vec<String>)> = made
+    let mut rest: Vec<(Vector, Vec<(String, u64)>)> = made
         .filter(Vector::fits)
         .map(|vector| {
             let mut tally = Tally::default();
@@ -200,9 +221,10 @@ fn chosen() -> Vec<Vector> {
     let mut list = Vec::new();
     let mut size = 0;
     loop {
-        let worth = |(vector, reached): &(Vector, Vec<String>)| {
-            let new = reached.iter().filter(|what| !seen.contains(*what)).count();
-            new * 10_000_000 / (2000 + vector.list.len())
+        let worth = |(vector, reached): &(Vector, Vec<(String, u64)>)| {
+            let new = reached.iter().filter(|(what, _)| !seen.contains(what));
+            let new: u64 = new.map(|(_, weight)| weight).sum();
+            new * 1_000_000 / (2000 + vector.list.len() as u64)
         };
         let best = (0..rest.len()).max_by_key(|at| (worth(&rest[*at]), usize::MAX - at));
         let Some(best) = best.filter(|best| worth(&rest[*best]) > 0) else {
@@ -211,7 +233,7 @@ fn chosen() -> Vec<Vector> {
         let (vector, reached) = rest.swap_remove(best);
         if size + vector.list.len() <= ALL {
             size += vector.list.len();
-            seen.extend(reached);
+            seen.extend(reached.into_iter().map(|(what, _)| what));
             list.push(vector);
         }
     }
