@@ -47,6 +47,8 @@ pub struct Generator {
     pub lengthy: bool,
     /// One slow operation that the others wait for.
     pub queueing: bool,
+    /// Operations that write four names each, through 256 names: units claim all of them.
+    pub claiming: bool,
     pub fresh: u64,
     /// Where the retired branch went, if elsewhere.
     redirect: Option<u64>,
@@ -107,6 +109,7 @@ pub fn for_bytes(seed: u64, scale: u64) -> (Machine, Generator) {
     generator.scale = scale;
     if style == Style::Wide {
         generator.disturbance = *generator.rng.pick(&[2, 6, 12, 25]);
+        generator.claiming = generator.rng.percent(40);
     }
     (machine, generator)
 }
@@ -122,6 +125,7 @@ impl Generator {
             several: *rng.pick(&[5, 20, 60]),
             lengthy: rng.percent(8),
             queueing: rng.percent(40),
+            claiming: false,
             rng,
             style,
             fresh: 0,

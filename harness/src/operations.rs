@@ -145,7 +145,9 @@ impl Generator {
                 self.rng.below(1000)
             },
         };
-        if self.style == Style::Wide && self.rng.percent(80) {
+        if self.claiming && self.rng.percent(95) {
+            self.with_claims(&mut given);
+        } else if self.style == Style::Wide && self.rng.percent(80) {
             self.without_waits(driver, &mut given);
         }
         given.destination = match self.rng.below(8) {
@@ -163,6 +165,22 @@ impl Generator {
             0..92 => driver.engine.fetch_pc(),
             92..96 => self.rng.below(64),
             _ => *self.rng.pick(&EDGE),
+        }
+    }
+
+    /// Writes the next four of 256 names, and reads none or some of the others; slow mostly.
+    fn with_claims(&mut self, given: &mut Given) {
+        let name = |at: u64| format!("c{}", at % 256).into_bytes();
+        let next = 4 * self.fresh;
+        self.fresh += 1;
+        given.writes = (next..next + 4).map(name).collect();
+        let reads = *self.rng.pick(&[0, 0, 0, 1, 8]);
+        given.sources = (0..reads).map(|_| name(self.rng.below(256))).collect();
+        if self.rng.percent(80) {
+            given.class = *self
+                .rng
+                .pick(&[Class::Divide, Class::Multiply, Class::FloatingPoint]);
+            given.branch = false;
         }
     }
 
