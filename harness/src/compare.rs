@@ -66,7 +66,6 @@ pub fn compare(ours: Ours, seed: u64, count: u64) -> ExitCode {
             return ExitCode::FAILURE;
         }
     }
-    all.tally.whole("a list of 16777216 bytes");
     all.progress(0, seed, since);
     let mut told = Instant::now();
     for index in 0..count {

@@ -4,7 +4,7 @@
 use crate::decode::{Reader, totals};
 use crate::driver::{Answered, Driver};
 use crate::lay::lay;
-use crate::layout::{HEAD, answer_size};
+use crate::layout::{HEAD, LIST, answer_size};
 use crate::refuse::make_refusals;
 use crate::tally::Tally;
 
@@ -21,6 +21,9 @@ pub fn play(list: &[u8], cells: &mut [u8], out: &mut [u8], tally: &mut Tally) ->
     if out.len() < totals.size {
         tally.whole("list refused 13, answers too long");
         return 13;
+    }
+    if list.len() == LIST {
+        tally.whole("a list of 16777216 bytes");
     }
     let out = &mut out[..totals.size];
     out.fill(0);
