@@ -89,7 +89,22 @@ use Rattle.traces.specs.declared.texts.Written.{Written}
 use Rattle.traces.specs.declared.texts.Written.the-variants.{Bytes, Refused}
 use Rattle.traces.specs.Texts.{written}
 use Rattle.views.proofs.Shows.{entries-shown, order-shown}
-use Rattle.answers.specs.Bytes.{laying, number-bytes, little-bytes, optional, offer-bytes, stage-bytes, kind-bytes, wait-bytes, row-bytes, cell-bytes, station-bytes, claim-bytes, slot-bytes, text-bytes}
+use Rattle.answers.specs.Bytes.{
+  laying,
+  number-bytes,
+  little-bytes,
+  optional,
+  offer-bytes,
+  stage-bytes,
+  kind-bytes,
+  wait-bytes,
+  row-bytes,
+  cell-bytes,
+  station-bytes,
+  claim-bytes,
+  slot-bytes,
+  text-bytes,
+}
 use Rattle.answers.specs.Encode.{encode, written-bytes}
 use Rattle.answers.specs.Size.{view-size, size, block}
 use Rattle.answers.proofs.Lengths.{optional-most, slot-length, stage-length, kind-length, station-length}
@@ -222,7 +237,7 @@ block-laid c a b out h = splice-pad b (size c) (encode a) out h
 
 module _ (b room : ℕ) (out : List ℕ) where
   -- The room of the text, before it is written.
-  abbrev area : List ℕ
+  abbrev pub area : List ℕ
   area = take room (drop (b + 10) out)
 
   told-by : (t : Text) (c : Bool) → ltb room (length t) ≡ c
