@@ -1,9 +1,9 @@
 -- A cycle that is neither halted nor faulted: its steps, one after the other, are the model's, and the parts are well formed again.
 use Prim.Native.Nat.{ℕ, _≤_}
 use mathlib.Core.Path.{_≡_, refl, sym, subst, ap, ap₂, _∙_}
-use mathlib.Core.Bool.{true, false, _||_}
+use mathlib.Core.Bool.{false}
 use mathlib.Core.Option.{Option, none, some}
-use mathlib.Core.List.{List, _++_, map}
+use mathlib.Core.List.{List, [], _++_, map}
 use native.Mathlib.Omega.{arith}
 use lib.Dec.{T}
 use lib.ListN.{length, take}
@@ -26,7 +26,7 @@ use Rattle.model.specs.Issue.{
   redirect-writes,
   timeline-writes,
 }
-use Rattle.model.specs.Scoreboard.{closed, clear-status, before-issue, invite, after-issue, stops}
+use Rattle.model.specs.Scoreboard.{closed, clear-status, before-issue, invite, after-issue}
 use Rattle.model.specs.Calls.{invitation, invitation-of}
 use Rattle.invariant.proofs.Advance.{flags-issued}
 use Rattle.config.specs.View.{viewMachine}
@@ -34,16 +34,17 @@ use Rattle.rows.proofs.Bytes.{write-all-append}
 use Rattle.registers.specs.declared.RegisterTable.{RegisterTable}
 use Rattle.registers.specs.View.{viewKnown, viewHeld, TableOk}
 use Rattle.registers.proofs.NameTable.{held-length, known-length, known-held, lowered}
+use Rattle.timeline.specs.declared.RowTexts.{RowTexts}
 use Rattle.timeline.specs.declared.Tracks.{Tracks}
 use Rattle.timeline.specs.View.{viewRows}
-use Rattle.flight.specs.View.{Legend, viewQueue}
+use Rattle.flight.specs.View.{Legend, nothing-carried, viewQueue}
 use Rattle.stalls.specs.View.{listed, viewLog}
 use Rattle.stalls.specs.Contracts.{NoRedirect}
 use Rattle.stalls.proofs.Logged.{listed-length}
 use Rattle.bank.specs.View.{viewUnits}
 use Rattle.recording.specs.Recorded.{Recorded, Written}
 use Rattle.board.specs.declared.Board.{Board}
-use Rattle.board.specs.View.{Frame, known-names, viewBoard}
+use Rattle.board.specs.View.{Frame, known-names, viewBoard, BoardOk}
 use Rattle.board.specs.Contracts.{taken-places, Names, Named, Vacant, Open, unit-places, Looks, Closes, with-frame-rows, Redirects, Works, Invites}
 use Rattle.cycle.proofs.Halves.{same-apart}
 use Rattle.issuing.specs.Issues.{Issues}
@@ -55,22 +56,16 @@ use Rattle.scoreboard.specs.Advance.{dropped-cells, issued, Worked, work
 use Rattle.scoreboard.proofs.Boards.{same-taken}
 use Rattle.scoreboard.proofs.Dropping.{with-names, dropped-names, empty-looks}
 use Rattle.scoreboard.proofs.Recorded.{recorded-both, written-both, redirected-rows, redirected-writes, recorded-board}
-use Rattle.scoreboard.proofs.Advancing.{closed-front, stops-same}
+use Rattle.scoreboard.proofs.Advancing.{closed-front}
 
 -- ── What the steps need ─────────────────────────────────────────────────────
 
-module _ {e : ScoreboardPipeline} (v : Valid e) (inside : e .board .front .«in_cycle» ≡ true) {b : Board} (cl : Closes (e .board) b)
-    (runs : b .front .halted || b .front .faulted ≡ false) where
-  pub begun-open : Open (e .board)
-  unfolding viewEngine viewBoard stops
-  begun-open = v .parts .begun inside (stops-same e cl ∙ runs)
+module _ {b r : Board} (ok : BoardOk b) (o : Open b) (cl : Closes b r) where
+  pub few-waits : r .log .traces .len ≤ 64
+  few-waits = omega (arith, listed-length (cl .ok .log), ap length (cl .waits), listed-length (ok .log), o .few)
 
-  pub few-waits : b .log .traces .len ≤ 64
-  few-waits =
-      omega (arith, listed-length (cl .ok .log), ap length (cl .waits), listed-length (v .parts .board .log), begun-open .few)
-
-  pub no-redirect : All NoRedirect (listed (b .log .traces))
-  no-redirect = subst (All NoRedirect) (sym (cl .waits)) (begun-open .none)
+  pub no-redirect : All NoRedirect (listed (r .log .traces))
+  no-redirect = subst (All NoRedirect) (sym (cl .waits)) (o .none)
 
 -- ── The names held ──────────────────────────────────────────────────────────
 
@@ -133,8 +128,8 @@ queue-cells g b = map queue-cell (viewQueue g (b .queue))
 abbrev pub unit-cells : Legend → Board → List (ℕ × ℕ)
 unit-cells g b = map unit-cell (keep is-busy (viewUnits g (b .units)))
 
-module _ {e : ScoreboardPipeline} (v : Valid e) (inside : e .board .front .«in_cycle» ≡ true) {b b1 b2 b3 b4 : Board} {target : Option ℕ}
-    (cl : Closes (e .board) b) (runs : b .front .halted || b .front .faulted ≡ false) (s1 : Redirects b b1 target) (s2 : Works b1 b2) (s3 : Issues b2 (e .machine) b3)
+module _ {e : ScoreboardPipeline} (v : Valid e) (o : Open (e .board)) {b b1 b2 b3 b4 : Board} {target : Option ℕ}
+    (cl : Closes (e .board) b) (s1 : Redirects b b1 target) (s2 : Works b1 b2) (s3 : Issues b2 (e .machine) b3)
     (s4 : Invites b3 (e .machine .depth) b4) {ts1 ts2 ts3 : Tracks}
     (p1 : (g : Legend) → Recorded (e .window) (dropped-cells target (viewQueue g (b .queue))) (e .tracks) ts1)
     (p2 : (g : Legend) → Recorded (e .window) (queue-cells g b4) ts1 ts2) (p3 : (g : Legend) → Recorded (e .window) (unit-cells g b4) ts2 ts3)
@@ -200,7 +195,7 @@ module _ {e : ScoreboardPipeline} (v : Valid e) (inside : e .board .front .«in_
   -- ---- the parts
 
   places-named : Named (unit-places b2) b2
-  places-named = s2 .step .named (s1 .step .named (cl .named (begun-open v inside cl runs)))
+  places-named = s2 .step .named (s1 .step .named (cl .named o))
 
   none-offered : 64 ≤ b2 .offer .writing
   none-offered = subst (λ o. 64 ≤ o .writing) (sym (s2 .offer ∙ s1 .offer)) (cl .offer)
@@ -292,3 +287,12 @@ module _ {e : ScoreboardPipeline} (v : Valid e) (inside : e .board .front .«in_
       working-memory =
           last-bytes ∙ ap (write-all (timeline-writes (issued target s))) first-bytes
           ∙ sym (write-all-append (redirect-writes target (closed s)) (timeline-writes (issued target s)) m)
+
+-- ── Whatever stands behind the numbers ──────────────────────────────────────
+
+-- Lengths are the same with any legend and any rows.
+abbrev pub any-legend : Legend
+any-legend = record { carried = λ p. nothing-carried; names = [] }
+
+abbrev pub any-rows : RowTexts
+any-rows = record { items = [] }

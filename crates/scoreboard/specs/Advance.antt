@@ -1,19 +1,32 @@
 -- What the rest of a cycle says, where it is not refused and the engine does not stop.
 use Prim.Native.Nat.{ℕ}
 use mathlib.Core.Path.{_≡_}
+use mathlib.Core.Bool.{Bool, true, false, not, _&&_, _||_}
 use mathlib.Core.Option.{Option, none, some}
 use mathlib.Core.List.{List, [], _++_, map}
-use Rattle.laws.specs.Optional.{when-some}
+use lib.ListN.{length}
+use Rattle.laws.specs.Optional.{is-none, when-some}
 use Rattle.model.specs.Op.{Op}
 use Rattle.model.specs.Timeline.{Write, write-all}
 use Rattle.model.specs.State.{State}
 use Rattle.model.specs.Issue.{flushed-cell, issue, redirect-writes, timeline-writes}
 use Rattle.model.specs.Scoreboard.{closed, before-issue, after-issue}
-use Rattle.model.specs.Calls.{invitation, invitation-of}
+use Rattle.model.specs.Calls.{advance, invitation, invitation-of, memory-after}
+use Rattle.config.specs.declared.Machine.{Machine}
+use Rattle.config.specs.Kept.{MachineOk}
+use Rattle.registers.specs.View.{claimed as index}
+use Rattle.timeline.specs.declared.Tracks.{Tracks}
+use Rattle.timeline.specs.declared.Window.{Window}
+use Rattle.timeline.specs.View.{WindowOk, TracksOk}
+use Rattle.board.specs.declared.Board.{Board}
+use Rattle.board.specs.View.{BoardOk}
+use Rattle.board.specs.Contracts.{Open}
+use Rattle.scoreboard.specs.declared.advance.Rest.{Rest}
 use Rattle.scoreboard.specs.declared.ScoreboardPipeline.{ScoreboardPipeline}
 use Rattle.scoreboard.specs.declared.Next.{Next}
 use Rattle.scoreboard.specs.View.{viewEngine, viewAnswer}
-use Rattle.scoreboard.specs.Valid.{Parts}
+use Rattle.scoreboard.specs.Valid.{Parts, Valid}
+use Rattle.scoreboard.specs.Calls.{Does}
 
 -- The cells of a redirect, if there is one.
 abbrev pub dropped-cells : Option ℕ → List Op → List (ℕ × ℕ)
@@ -31,3 +44,46 @@ pub record Worked (e : ScoreboardPipeline) (target : Option ℕ) (r : Next) : Ty
 -- The bytes that it sets.
 abbrev pub worked-writes : Option ℕ → State → List Write
 worked-writes r s = redirect-writes r (closed s) ++ timeline-writes (issued r s)
+
+-- ── By parts ────────────────────────────────────────────────────────────────
+
+abbrev pub window-of : ℕ → ℕ → ℕ → Window
+window-of next rows history = record { next = next; held = rows; history = history }
+
+-- Is there an offer that was not retired?
+abbrev pub open-offer : ℕ → Bool → Bool
+open-offer w retired = not (is-none (index w)) && not retired
+
+-- The engine with these parts, else as it is.
+abbrev pub engine-of : Board → Window → Tracks → Machine → ℕ → ℕ → ScoreboardPipeline → ScoreboardPipeline
+engine-of b w ts m known held e =
+    record {
+      board = b;
+      window = w;
+      tracks = ts;
+      decoded = e .decoded;
+      machine = m;
+      table = record { names = e .table .names; known = known; held = held };
+      texts = e .texts;
+      rows = e .rows;
+    }
+
+-- What holds of the parts that an advance works on.
+pub record Restable (b : Board) (w : Window) (ts : Tracks) (m : Machine) : Type 0 where
+  pub board : BoardOk b
+  pub window : WindowOk w
+  pub tracks : TracksOk ts
+  pub machine : MachineOk m
+  pub begun : b .front .«in_cycle» ≡ true → b .front .halted || b .front .faulted ≡ false → Open b
+
+-- It is the advance of every engine with these parts.
+abbrev pub Rests : Board → Window → Tracks → Machine → ℕ → ℕ → Option ℕ → ℕ → Rest → Type 0
+Rests b w ts m known held target lent r =
+    (e : ScoreboardPipeline) → Valid (engine-of b w ts m known held e)
+    → Does (engine-of b w ts m known held e) (advance target lent)
+    (record { engine = engine-of (r .board) w (r .tracks) m (r .known) (r .held) e; answer = r .answer })
+
+abbrev pub RestWrites : Board → Window → Tracks → Machine → ℕ → ℕ → Option ℕ → List ℕ → List ℕ → Type 0
+RestWrites b w ts m known held target before after =
+    (e : ScoreboardPipeline) → Valid (engine-of b w ts m known held e)
+    → after ≡ memory-after (viewEngine (engine-of b w ts m known held e)) (advance target (length before)) before

@@ -3,27 +3,25 @@ use crate::Answer;
 use crate::Next;
 use crate::ScoreboardPipeline;
 use board::Board;
+use config::Machine;
 use flight::Queue;
 use op::MaybeNumber;
 use timeline::Tracks;
 use timeline::Window;
 ghost use mathlib.Core.Path.{_≡_};
-ghost use mathlib.Core.Bool.{true, false, _||_};
 ghost use Prim.Native.Nat.{ℕ, _*_, _≤_};
 ghost use lib.ListN.{length};
 ghost use Rattle.laws.specs.Optional.{when-some};
-ghost use Rattle.model.specs.Timeline.{write-all};
 ghost use Rattle.model.specs.Calls.{advance, memory-after, invitation, invitation-of};
 ghost use Rattle.op.specs.View.{viewMaybeNumber};
 ghost use Rattle.timeline.specs.View.{WindowOk, TracksOk};
 ghost use Rattle.flight.specs.View.{Legend, viewQueue, QueueOk};
 ghost use Rattle.recording.specs.Recorded.{Recorded, Written};
 ghost use Rattle.board.specs.View.{Frame, viewBoard};
-ghost use Rattle.board.specs.Contracts.{Closes};
 ghost use Rattle.scoreboard.specs.View.{viewEngine, viewAnswer};
 ghost use Rattle.scoreboard.specs.Valid.{Valid};
 ghost use Rattle.scoreboard.specs.Calls.{Does};
-ghost use Rattle.scoreboard.specs.Advance.{dropped-cells, Worked, worked-writes};
+ghost use Rattle.scoreboard.specs.Advance.{dropped-cells, window-of, open-offer, Restable, Rests, RestWrites};
 
 // The rows after a redirect, if there is one: an FL cell for each queued operation.
 fn flushed_rows(
@@ -67,6 +65,83 @@ fn invitation(board: Board) -> Answer
     }
 }
 
+// What an advance changes, and its answer.
+pub struct Rest {
+    pub board: Board,
+    pub known: usize,
+    pub tracks: Tracks,
+    pub held: usize,
+    pub answer: Answer,
+}
+
+// The rest of a cycle. `writing` and `retired` tell of the offer; `next`, `rows` and `history` are the window. It has two call sites, so that it
+// stays a call, and takes numbers rather than a window, so that less is copied to it (docs/DECISIONS.md, 57).
+// model: Calls.after, Calls.answer and Calls.memory-after, of advance
+fn advanced(
+    board: Board,
+    writing: usize,
+    retired: bool,
+    next: u64,
+    rows: usize,
+    history: usize,
+    tracks: Tracks,
+    machine: Machine,
+    known: usize,
+    held: usize,
+    redirect: MaybeNumber,
+    cells: &mut [u8],
+) -> Rest
+    requires { ⌜ Restable board (window-of next rows history) tracks machine ⌝ }
+    requires { ⌜ open-offer writing retired ≡ open-offer (board .offer .writing) (board .offer .retired) ⌝ }
+    ensures done { λ r. ⌜ Rests board (window-of next rows history) tracks machine known held (viewMaybeNumber redirect) (length (now (cells .entry))) r ⌝ }
+    ensures memory { λ r. ⌜ RestWrites board (window-of next rows history) tracks machine known held (viewMaybeNumber redirect) (now (cells .entry)) (now (cells .exit)) ⌝ }
+{
+    let window = Window {
+        next,
+        held: rows,
+        history,
+    };
+    let no = checks::advance(board.front.in_cycle, writing, retired, cells.len(), history);
+    if no != 0 {
+        return Rest {
+            board,
+            known,
+            tracks,
+            held,
+            answer: Answer::Refused(no),
+        };
+    }
+    let b = board.closed();
+    if board.front.stops() {
+        return Rest {
+            board: b,
+            known,
+            tracks,
+            held,
+            answer: Answer::NoInvitation,
+        };
+    }
+    let queue = b.queue;
+    let tracks1 = flushed_rows(tracks, window, queue, redirect, cells);
+    let worked = cycle::stepped(b.redirected(redirect));
+    let issued = issuing::issue(worked, machine);
+    let after = issued.invite(machine.depth);
+    let queue1 = after.queue;
+    let units = after.units;
+    let tracks2 = recording::push_queue(tracks1, window, queue1, cells);
+    let tracks3 = recording::push_units(tracks2, window, units, cells);
+    let claims = after.claims;
+    let kept = held_after(held, known, redirect);
+    let answer = invitation(after);
+    Rest {
+        board: after,
+        known: claims.len,
+        tracks: tracks3,
+        held: kept,
+        answer,
+    }
+}
+
 impl ScoreboardPipeline {
     // The rest of the cycle, and the address to fetch next.
     pub fn advance(mut self, redirect: MaybeNumber, cells: &mut [u8]) -> Next
@@ -75,59 +150,53 @@ impl ScoreboardPipeline {
         ensures memory { λ r. ⌜ now (cells .exit) ≡ memory-after (viewEngine self) (advance (viewMaybeNumber redirect) (length (now (cells .entry)))) (now (cells .entry)) ⌝ }
     {
         let board = self.board;
-        let no = checks::advance(
-            board.front.in_cycle,
-            board.offer.writing,
-            board.offer.retired,
-            cells.len(),
-            self.window.history,
-        );
-        if no != 0 {
-            return Next {
-                engine: self,
-                answer: Answer::Refused(no),
-            };
-        }
-        let b = board.closed();
-        if b.front.stops() {
-            self.board = b;
-            return Next {
-                engine: self,
-                answer: Answer::NoInvitation,
-            };
-        }
-        self.worked(b, redirect, cells)
-    }
-
-    // A cycle that is neither halted nor faulted, after the write.
-    fn worked(mut self, b: Board, redirect: MaybeNumber, cells: &mut [u8]) -> Next
-        requires { ⌜ Valid self ⌝ }
-        requires { ⌜ self .board .front .«in_cycle» ≡ true ⌝ }
-        requires { ⌜ Closes (self .board) b ⌝ }
-        requires { ⌜ b .front .halted || b .front .faulted ≡ false ⌝ }
-        requires { ⌜ self .window .history * 200 ≤ length (now cells) ⌝ }
-        ensures done { λ r. ⌜ Worked self (viewMaybeNumber redirect) r ⌝ }
-        ensures memory { λ r. ⌜ now (cells .exit) ≡ write-all (worked-writes (viewMaybeNumber redirect) (viewEngine self)) (now (cells .entry)) ⌝ }
-    {
-        let machine = self.machine;
         let tracks = self.tracks;
-        let window = self.window;
-        let queue = b.queue;
-        let tracks1 = flushed_rows(tracks, window, queue, redirect, cells);
-        let worked = cycle::stepped(b.redirected(redirect));
-        let issued = issuing::issue(worked, machine);
-        let after = issued.invite(machine.depth);
-        let queue1 = after.queue;
-        let units = after.units;
-        let tracks2 = recording::push_queue(tracks1, window, queue1, cells);
-        let tracks3 = recording::push_units(tracks2, window, units, cells);
-        let claims = after.claims;
-        let held = held_after(self.table.held, self.table.known, redirect);
-        let answer = invitation(after);
+        let machine = self.machine;
+        let next = self.window.next;
+        let rows = self.window.held;
+        let history = self.window.history;
+        let known = self.table.known;
+        let held = self.table.held;
+        let writing = board.offer.writing;
+        let r = if writing < 64 {
+            let retired = board.offer.retired;
+            advanced(
+                board,
+                writing,
+                retired,
+                next,
+                rows,
+                history,
+                tracks,
+                machine,
+                known,
+                held,
+                redirect,
+                cells,
+            )
+        } else {
+            advanced(
+                board,
+                64,
+                false,
+                next,
+                rows,
+                history,
+                tracks,
+                machine,
+                known,
+                held,
+                redirect,
+                cells,
+            )
+        };
+        let after = r.board;
+        let tracks1 = r.tracks;
+        let answer = r.answer;
         self.board = after;
-        self.tracks = tracks3;
-        self.table.known = claims.len;
-        self.table.held = held;
+        self.tracks = tracks1;
+        self.table.known = r.known;
+        self.table.held = r.held;
         Next {
             engine: self,
             answer,

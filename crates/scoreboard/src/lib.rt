@@ -36,9 +36,10 @@ ghost use Rattle.config.specs.Kept.{MachineOk};
 ghost use Rattle.checks.specs.Numbered.{numbered};
 ghost use Rattle.flight.specs.Pool.{DecodedPoolOk};
 ghost use Rattle.bank.specs.View.{UnitsOk};
+ghost use Rattle.board.specs.View.{BoardOk};
 ghost use Rattle.scoreboard.specs.View.{viewEngine, viewOffer, viewAnswer};
 ghost use Rattle.scoreboard.specs.Valid.{Parts, Valid};
-ghost use Rattle.scoreboard.specs.Answers.{new-state, offer-with, Offers, Resolves};
+ghost use Rattle.scoreboard.specs.Answers.{new-state, offer-with, Offers, Resolves, Begins};
 ghost use Rattle.scoreboard.specs.Calls.{Makes, Does};
 
 // What a cycle works on comes first, then what a fetch writes. `window.next` is the number of the next operation, and the id of its row.
@@ -152,6 +153,30 @@ fn start_answer(units: Units, decoded: DecodedPool, writing: usize) -> Answer
     Answer::Offered(offer_view(u, d))
 }
 
+// The board after a start, and its answer.
+pub struct Begun {
+    pub board: Board,
+    pub answer: Answer,
+}
+
+// A start, unless it is refused with a number. It has two call sites, so that it stays a call (docs/DECISIONS.md, 57).
+fn begin(board: Board, decoded: DecodedPool, refused: bool, no: u8) -> Begun
+    requires { ⌜ BoardOk board ⌝ }
+    requires { ⌜ DecodedPoolOk decoded ⌝ }
+    ensures { λ r. ⌜ Begins board decoded refused no r ⌝ }
+{
+    if refused {
+        return Begun {
+            board,
+            answer: Answer::Refused(no),
+        };
+    }
+    let b = cycle::start(board);
+    let units = b.units;
+    let answer = start_answer(units, decoded, b.offer.writing);
+    Begun { board: b, answer }
+}
+
 // model: Calls.reply, of resolve; Write.resolve-branch
 fn resolve_answer(units: Units, decoded: DecodedPool, writing: usize, actual_next: u64) -> Answer
     requires { ⌜ UnitsOk units ⌝ }
@@ -196,17 +221,15 @@ impl ScoreboardPipeline {
         requires { ⌜ Valid self ⌝ }
         ensures { λ r. ⌜ Does self start r ⌝ }
     {
-        if self.board.front.in_cycle {
-            return Next {
-                engine: self,
-                answer: Answer::Refused(4),
-            };
-        }
         let board = self.board;
         let decoded = self.decoded;
-        let after = cycle::start(board);
-        let units = after.units;
-        let answer = start_answer(units, decoded, after.offer.writing);
+        let b = if board.front.in_cycle {
+            begin(board, decoded, true, 4)
+        } else {
+            begin(board, decoded, false, 0)
+        };
+        let after = b.board;
+        let answer = b.answer;
         self.board = after;
         Next {
             engine: self,

@@ -1,75 +1,56 @@
-use mathlib.Core.Path.{sym, _∙_}
+use mathlib.Core.Path.{_≡_, refl, _∙_}
+use mathlib.Core.Logic.{⊎-elim}
 use lib.ListN.{length}
-use borrow.Author.Needs.{needs}
+use Rattle.model.specs.Calls.{advance, memory-after}
 use Rattle.op.specs.View.{viewMaybeNumber}
-use Rattle.scoreboard.proofs.Does.{does-refused}
-use Rattle.scoreboard.proofs.Fetches.{some-number, no-number}
-use Rattle.scoreboard.proofs.Advancing.{stops-same, checked, cycle-open, cells-fit, memory-refused, stopped, memory-stopped, works, memory-works}
+use Rattle.scoreboard.specs.View.{viewEngine}
+use Rattle.scoreboard.proofs.Does.{same-size}
+use Rattle.scoreboard.proofs.Advancing.{no-open-offer, restable, rested}
 use Rattle.scoreboard.proofs.ScoreboardPipeline.advance.Statement.{statement}
 use Rattle.scoreboard.proofs.ScoreboardPipeline.advance.Tie as tie
 
-advance-requires : tie.Need-advance-requires
-advance-requires c κs = search needs
+advanced-requires : tie.Need-advanced-requires
+advanced-requires c κs = (restable (c .before .before .before .before .before .before .pre), refl)
+
+advanced-requires-2 : tie.Need-advanced-requires-2
+advanced-requires-2 c κs =
+    let s = c .before .before .before .before .before .before in
+    let o = s .args .self .board .offer in
+    (restable (s .pre), no-open-offer (o .writing) (o .retired) (c .before .if1 .left))
+
+-- The cells after either call.
+cells-left : (j : tie.Joined1)
+    → j .if1 .cells
+    ≡ memory-after (viewEngine (j .before .before .before .before .before .args .self))
+    (advance (viewMaybeNumber (j .before .before .before .before .before .args .redirect))
+    (length (j .before .before .before .before .before .args .cells .now)))
+    (j .before .before .before .before .before .args .cells .now)
+cells-left j =
+    let s = j .before .before .before .before .before in
+    ⊎-elim
+    (λ w. w .5 ∙ w .2 .ensures .1 (s .args .self) (s .pre))
+    (λ w. w .5 ∙ w .2 .ensures .1 (s .args .self) (s .pre))
+    (j .if1 .came)
+
+same-length : tie.Need-same-length
+same-length c =
+    let j = c .before .before .before .before in
+    let s = j .before .before .before .before .before in
+    let m = s .args .cells .now in
+    same-size (viewEngine (s .args .self)) (advance (viewMaybeNumber (s .args .redirect)) (length m)) m (cells-left j)
 
 returns : tie.Need-returns
 returns c =
-    let s = c .before .before .before .before in
+    let j = c .before .before .before .before in
+    let s = j .before .before .before .before .before in
     let t = viewMaybeNumber (s .args .redirect) in
-    let m = s .args .cells .now in
-    let h = some-number (c .before .advance .ensures ∙ checked (s .pre) t (length m)) (c .if1 .taken) in
-    (does-refused (s .pre) h, memory-refused (s .pre) t m h)
-
-closed-requires : tie.Need-closed-requires
-closed-requires c κs = search needs
-
-stops-requires : tie.Need-stops-requires
-stops-requires c κs = search needs
-
-returns-2 : tie.Need-returns-2
-returns-2 c =
-    let k = c .before .before in
-    let a = k .before .before in
-    let s = a .before .before .before in
-    let t = viewMaybeNumber (s .args .redirect) in
-    let m = s .args .cells .now in
-    let cl = k .closed .ensures in
-    let h = no-number (a .advance .ensures ∙ checked (s .pre) t (length m)) (k .before .if1 .left) in
-    let q = sym (c .before .stops .ensures) ∙ c .if2 .taken in
-    (stopped (s .pre) t m h (stops-same (s .args .self) cl ∙ q) cl q, memory-stopped (s .pre) t m h (stops-same (s .args .self) cl ∙ q))
-
-worked-requires : tie.Need-worked-requires
-worked-requires c κs =
-    let k = c .before .before .before in
-    let a = k .before .before in
-    let s = a .before .before .before in
-    let n = length (s .args .cells .now) in
-    let h = no-number (a .advance .ensures) (k .before .if1 .left) in
-    (s .pre, (cycle-open (s .args .self) n h, (k .closed .ensures, (sym (c .before .before .stops .ensures) ∙ c .before .if2 .left, cells-fit (s .args .self) n h))))
-
-same-length : tie.Need-same-length
-same-length c = search needs
-
-returns-3 : tie.Need-returns-3
-returns-3 c =
-    let w = c .before .before in
-    let k = w .before .before .before .before in
-    let a = k .before .before in
-    let s = a .before .before .before in
-    let t = viewMaybeNumber (s .args .redirect) in
-    let m = s .args .cells .now in
-    let h = no-number (a .advance .ensures ∙ checked (s .pre) t (length m)) (k .before .if1 .left) in
-    let q = stops-same (s .args .self) (k .closed .ensures) ∙ sym (w .before .before .before .stops .ensures) ∙ w .before .before .if2 .left in
-    (works (s .pre) t m h q (w .worked .ensures .0), memory-works (s .pre) t m h q (w .worked .ensures .1))
+    let n = length (s .args .cells .now) in (
+      ⊎-elim
+          (λ w. rested (s .pre) t n (w .2 .ensures .0) (w .6))
+          (λ w. rested (s .pre) t n (w .2 .ensures .0) (w .6))
+          (j .if1 .came),
+      cells-left j,
+    )
 
 pub advance-spec : {M : Type 1} → statement M
-advance-spec =
-    tie.close
-    (tie.spec
-    advance-requires
-    returns
-    closed-requires
-    stops-requires
-    returns-2
-    worked-requires
-    same-length
-    returns-3)
+advance-spec = tie.close (tie.spec advanced-requires advanced-requires-2 same-length returns)
