@@ -1,17 +1,18 @@
 -- A cycle up to its invitation: a start, the offer retired, the advance.
 use Prim.Native.Nat.{ℕ, _≤_, _<_}
-use mathlib.Core.Path.{_≡_, refl, sym, ap, ap₂, _∙_}
-use mathlib.Core.Bool.{true, false}
+use mathlib.Core.Path.{_≡_, refl, sym, subst, ap, ap₂, _∙_}
+use mathlib.Core.Bool.{Bool, true, false, cond, not, _||_}
+use mathlib.Core.Logic.{⊎-elim}
 use mathlib.Core.Option.{Option, none, some}
-use mathlib.Core.List.{List, []}
+use mathlib.Core.List.{List, [], _∷_}
 use lib.ListN.{length}
-use Rattle.laws.specs.Optional.{is-some, when-some, omap}
-use Rattle.laws.proofs.Tests.{cond-yes, cond-no}
+use Rattle.laws.specs.Optional.{is-none, is-some, when-some, omap}
+use Rattle.laws.proofs.Tests.{cond-yes, cond-no, lt-or-ge}
 use Rattle.model.specs.State.{State}
 use Rattle.model.specs.Timeline.{write-all}
 use Rattle.model.specs.Units.{unit-at}
 use Rattle.model.specs.Write.{offered-op}
-use Rattle.model.specs.Calls.{Call, start, retire, advance, refusal, sets, memory-after}
+use Rattle.model.specs.Calls.{Call, start, retire, advance, no-offer as none-on-offer, first-of, checks, refusal, sets, memory-after}
 use Rattle.model.specs.Forecast.{lent-of, play, retire-offer, cycle}
 use Rattle.board.specs.View.{viewBoard}
 use Rattle.scoreboard.specs.declared.ScoreboardPipeline.{ScoreboardPipeline}
@@ -55,7 +56,7 @@ module _ {e : ScoreboardPipeline} {a : Next} (d : Does e start a) where
   unfolding sets
   begun m = played m d (sym (memory-same (viewEngine e) start m refl))
 
-  pub retired : a .engine .board .offer .writing < 64 → {k : Next} → Does (a .engine) retire k → Starts e (k .engine)
+  retired : a .engine .board .offer .writing < 64 → {k : Next} → Does (a .engine) retire k → Starts e (k .engine)
   unfolding retire-offer sets
   retired h {k} r =
       record {
@@ -67,13 +68,30 @@ module _ {e : ScoreboardPipeline} {a : Next} (d : Does e start a) where
         valid = r .valid;
       }
 
-  pub none-offered : 64 ≤ a .engine .board .offer .writing → Starts e (a .engine)
+  none-offered : 64 ≤ a .engine .board .offer .writing → Starts e (a .engine)
   unfolding retire-offer
   none-offered h =
       record {
         is = λ m. sym (cond-no _ _ (no-offer (a .engine) h)) ∙ ap retire-offer (begun m);
         valid = d .valid;
       }
+
+-- A retire where nothing is on offer is refused.
+no-retire : (e : ScoreboardPipeline) → 64 ≤ e .board .offer .writing → refusal (viewEngine e) retire ≡ some (cond (e .board .front .«in_cycle») 6 5)
+unfolding refusal checks none-on-offer first-of viewEngine viewBoard
+no-retire e h =
+    let b = e .board in
+    ap (λ (o : Option ℕ). first-of ((5, not (b .front .«in_cycle»)) ∷ (6, is-none o || b .offer .retired) ∷ [])) (no-index (b .offer .writing) h)
+    ∙ go (b .front .«in_cycle»)
+  where
+    go : (c : Bool) → first-of ((5, not c) ∷ (6, true) ∷ []) ≡ some (cond c 6 5)
+    go true = refl
+    go false = refl
+
+-- So it is the offer, if there is one, that is retired.
+pub settled : {e : ScoreboardPipeline} {a k : Next} → Does e start a → Does (a .engine) retire k → Starts e (k .engine)
+settled {e} {a} d r =
+    ⊎-elim (λ h. retired d h r) (λ h. subst (Starts e) (sym (r .refused _ (no-retire (a .engine) h))) (none-offered d h)) (lt-or-ge (a .engine .board .offer .writing) 64)
 
 -- ── The advance ─────────────────────────────────────────────────────────────
 

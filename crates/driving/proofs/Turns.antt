@@ -6,9 +6,9 @@ use mathlib.Core.Logic.{_⊎_, inl, inr, ⊎-elim}
 use mathlib.Core.Option.{Option, none, some}
 use mathlib.Core.List.{List, [], _∷_}
 use native.Mathlib.Omega.{arith}
-use lib.Dec.{eqb, ltb}
+use lib.Dec.{ltb}
 use lib.ListN.{length, drop, length-drop}
-use borrow.Author.Tests.{eqb-true, eqb-false, ltb-true, ltb-false}
+use borrow.Author.Tests.{ltb-true, ltb-false}
 use Rattle.laws.specs.Lists.{is-empty}
 use Rattle.laws.specs.Texts.{Text}
 use Rattle.laws.proofs.Tests.{cond-yes, cond-no, and-yes, and-no, and-no-second}
@@ -154,7 +154,7 @@ stays (suc fuel) (suc zero) input g cells h = refl
 stays (suc fuel) (suc (suc k)) input g cells h = refl
 
 module _ {input : Text} {whole : Run} {cells₀ cells : List ℕ} {g : Going} {fuel : ℕ} (r : Running input whole cells₀ cells g fuel) where
-  pub running-next : {h : Going} {next : List ℕ} → 0 < fuel → eqb (g .stands) 0 ≡ true
+  pub running-next : {h : Going} {next : List ℕ} → 0 < fuel → g .stands ≡ 0
       → Goes input (turn (lent-of (viewEngine (g .engine)) cells) (drop (g .at) input) (g .lines)) h next
       → length next ≡ length cells
       → Running input whole cells₀ next h (fuel - 1)
@@ -164,7 +164,7 @@ module _ {input : Text} {whole : Run} {cells₀ cells : List ℕ} {g : Going} {f
         is =
             ap (forecast-run (fuel - 1)) (t .is)
             ∙ turned fuel (lent-of (viewEngine (g .engine)) cells) (drop (g .at) input) (g .lines) f
-            ∙ sym (ap (λ k. forecast-run fuel (run-by k input g cells)) (eqb-true (g .stands) 0 s))
+            ∙ sym (ap (λ k. forecast-run fuel (run-by k input g cells)) s)
             ∙ r .is;
         valid = t .valid;
         at = t .at;
@@ -172,11 +172,11 @@ module _ {input : Text} {whole : Run} {cells₀ cells : List ℕ} {g : Going} {f
         size = n ∙ r .size;
       }
 
-  pub running-ended : eqb (g .stands) 0 ≡ false → Goes input whole g cells
+  pub running-ended : (g .stands ≡ 0 → ⊥) → Goes input whole g cells
   unfolding viewRun
   running-ended s =
       record {
-        is = sym (stays fuel (g .stands) input g cells (eqb-false (g .stands) 0 s)) ∙ r .is;
+        is = sym (stays fuel (g .stands) input g cells s) ∙ r .is;
         valid = r .valid;
         at = r .at;
         lines = r .lines;
@@ -190,6 +190,18 @@ module _ {input : Text} {whole : Run} {cells₀ cells : List ℕ} {g : Going} {f
         valid = r .valid;
         at = r .at;
         lines = r .lines;
+      }
+
+  -- While it goes on, what a line would have been refused with does not count.
+  pub going-on : g .stands ≡ 0 → Running input whole cells₀ cells (record { engine = g .engine; at = g .at; lines = g .lines; stands = 0; number = 0 }) fuel
+  unfolding viewRun run-by
+  going-on s =
+      record {
+        is = ap (λ k. forecast-run fuel (run-by k input g cells)) (sym s) ∙ r .is;
+        valid = r .valid;
+        at = r .at;
+        lines = r .lines;
+        size = r .size;
       }
 
 -- The run from the start, with its fuel.

@@ -12,7 +12,7 @@ ghost use mathlib.Core.Path.{_≡_};
 ghost use Prim.Native.Nat.{suc, _≤_, _<_};
 ghost use lib.ListN.{length, drop};
 ghost use Rattle.model.specs.Scoreboard.{idle};
-ghost use Rattle.model.specs.Forecast.{first-line, other-lines, parse, forecast-shape, lent-of, take-parsed, cycle-and-line, turn, forecast-run, fuel-for, going};
+ghost use Rattle.model.specs.Forecast.{first-line, other-lines, parse, forecast-shape, lent-of, take-parsed, forecast-run, fuel-for, going};
 ghost use Rattle.config.specs.View.{viewShape};
 ghost use Rattle.scoreboard.specs.View.{viewEngine};
 ghost use Rattle.scoreboard.specs.Valid.{Valid};
@@ -73,6 +73,7 @@ fn is_idle(engine: ScoreboardPipeline) -> bool
     }
 }
 
+// A retire where nothing is on offer is refused, and leaves the engine as it is.
 // model: Forecast.retire-offer, after a start
 fn started(engine: ScoreboardPipeline) -> ScoreboardPipeline
     requires { ⌜ Valid engine ⌝ }
@@ -80,11 +81,8 @@ fn started(engine: ScoreboardPipeline) -> ScoreboardPipeline
 {
     let next = engine.start_cycle();
     let after = next.engine;
-    if after.board.offer.writing < 64 {
-        let settled = after.retire();
-        return settled.engine;
-    }
-    after
+    let settled = after.retire();
+    settled.engine
 }
 
 // A cycle up to its invitation.
@@ -146,24 +144,39 @@ fn take_line(
     }
 }
 
-// A line is read only when an invitation takes it.
-// model: Forecast.cycle-and-line
-fn cycle_and_line(
-    engine: ScoreboardPipeline,
-    input: &[u8],
-    at: usize,
-    lines: u64,
-    cells: &mut [u8],
-) -> Going
+// So many turns at most: the fuel is never the reason to stop. It ends when the lines are used up and nothing is in flight; a line is read only when
+// an invitation takes it. The engine is a variable of the loop by itself, so that a turn copies only what it changes (docs/DECISIONS.md, 57).
+// model: Forecast.forecast-run, turn, cycle-and-line, fuel-for
+pub fn run(engine: ScoreboardPipeline, input: &[u8], cells: &mut [u8]) -> Going
     requires { ⌜ Valid engine ⌝ }
-    requires { ⌜ at ≤ length (now input) ⌝ }
-    requires { ⌜ lines ≤ at ⌝ }
     requires { ⌜ length (now input) ≤ 65536 ⌝ }
-    ensures { λ r. ⌜ Goes (now (input .entry)) (cycle-and-line (lent-of (viewEngine engine) (now (cells .entry))) (drop at (now (input .entry))) lines) r (now (cells .exit)) ⌝ }
+    ensures { λ r. ⌜ Goes (now (input .entry)) (forecast-run (fuel-for (now (input .entry))) (going (lent-of (viewEngine engine) (now (cells .entry))) (now (input .entry)) 0)) r (now (cells .exit)) ⌝ }
 {
-    let e = cycle(engine, cells);
-    if e.board.front.invited && at < input.len() {
-        return take_line(e, input, at, lines, cells);
+    let mut e = engine;
+    let mut at: usize = 0;
+    let mut lines: u64 = 0;
+    let mut fuel = 100 * (input.len() + 1);
+    while 0 < fuel {
+        fuel -= 1;
+        if at == input.len() && is_idle(e) {
+            return Going {
+                engine: e,
+                at,
+                lines,
+                stands: 1,
+                number: 0,
+            };
+        }
+        e = cycle(e, cells);
+        if e.board.front.invited && at < input.len() {
+            let g = take_line(e, input, at, lines, cells);
+            if g.stands != 0 {
+                return g;
+            }
+            e = g.engine;
+            at = g.at;
+            lines = g.lines;
+        }
     }
     Going {
         engine: e,
@@ -172,47 +185,4 @@ fn cycle_and_line(
         stands: 0,
         number: 0,
     }
-}
-
-// It ends when the lines are used up and nothing is in flight.
-// model: Forecast.turn
-fn turn(engine: ScoreboardPipeline, input: &[u8], at: usize, lines: u64, cells: &mut [u8]) -> Going
-    requires { ⌜ Valid engine ⌝ }
-    requires { ⌜ at ≤ length (now input) ⌝ }
-    requires { ⌜ lines ≤ at ⌝ }
-    requires { ⌜ length (now input) ≤ 65536 ⌝ }
-    ensures { λ r. ⌜ Goes (now (input .entry)) (turn (lent-of (viewEngine engine) (now (cells .entry))) (drop at (now (input .entry))) lines) r (now (cells .exit)) ⌝ }
-{
-    if at == input.len() && is_idle(engine) {
-        return Going {
-            engine,
-            at,
-            lines,
-            stands: 1,
-            number: 0,
-        };
-    }
-    cycle_and_line(engine, input, at, lines, cells)
-}
-
-// So many turns at most: the fuel is never the reason to stop.
-// model: Forecast.forecast-run, fuel-for
-pub fn run(engine: ScoreboardPipeline, input: &[u8], cells: &mut [u8]) -> Going
-    requires { ⌜ Valid engine ⌝ }
-    requires { ⌜ length (now input) ≤ 65536 ⌝ }
-    ensures { λ r. ⌜ Goes (now (input .entry)) (forecast-run (fuel-for (now (input .entry))) (going (lent-of (viewEngine engine) (now (cells .entry))) (now (input .entry)) 0)) r (now (cells .exit)) ⌝ }
-{
-    let mut g = Going {
-        engine,
-        at: 0,
-        lines: 0,
-        stands: 0,
-        number: 0,
-    };
-    let mut fuel = 100 * (input.len() + 1);
-    while 0 < fuel && g.stands == 0 {
-        g = turn(g.engine, input, g.at, g.lines, cells);
-        fuel -= 1;
-    }
-    g
 }

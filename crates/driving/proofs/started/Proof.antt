@@ -1,5 +1,5 @@
 -- The offer that the start left, if there is one, is retired.
-use Rattle.driving.proofs.Cycles.{retired, none-offered}
+use Rattle.driving.proofs.Cycles.{settled}
 use borrow.Author.Needs.{needs}
 use Rattle.driving.proofs.started.Statement.{statement}
 use Rattle.driving.proofs.started.Tie as tie
@@ -11,12 +11,7 @@ retire-requires : tie.Need-retire-requires
 retire-requires c κs = search needs
 
 returns : tie.Need-returns
-returns c =
-    let t = c .before .before in
-    retired (t .before .before .before .start-cycle .ensures) (t .if1 .taken) (c .before .retire .ensures)
-
-returns-2 : tie.Need-returns-2
-returns-2 c = none-offered (c .before .before .before .start-cycle .ensures) (c .if1 .left)
+returns c = let t = c .before in settled (t .before .before .start-cycle .ensures) (t .retire .ensures)
 
 pub started-spec : {M : Type 1} → statement M
-started-spec = tie.close (tie.spec start-cycle-requires retire-requires returns returns-2)
+started-spec = tie.close (tie.spec start-cycle-requires retire-requires returns)
