@@ -1,0 +1,11 @@
+pub mod Which
+pub mod Drives
+pub mod Asks
+pub mod Room
+pub mod Shows
+pub mod Tells
+pub mod Scans
+pub mod Lays
+pub mod Plays
+pub mod Scripts
+pub mod Outcomes
