@@ -3,18 +3,8 @@
 use crate::call::{Call, Field, Given, Kind, Machine, Place, Request, Text, View};
 use crate::capability::{PipelineInstructionClass as Class, PipelineStageRole as Role};
 use crate::layout::{HEAD, LIST, MACHINE, ROOM, answer_size, lent};
+use crate::machines::ROLES;
 use crate::refuse::{KIND_NAME, KINDS, NAME, SOURCES, STAGES, TEXT, WRITES};
-
-const ROLES: [Role; 8] = [
-    Role::Fetch,
-    Role::Decode,
-    Role::Issue,
-    Role::Execute,
-    Role::Memory,
-    Role::Writeback,
-    Role::Commit,
-    Role::Other,
-];
 
 /// What a list of its form asks for.
 pub struct Totals {

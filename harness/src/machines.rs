@@ -6,7 +6,7 @@ use crate::generate::{EDGE, Generator, Style};
 
 const CLASSES: [Class; 10] = Class::ALL;
 
-const ROLES: [Role; 8] = [
+pub const ROLES: [Role; 8] = [
     Role::Fetch,
     Role::Decode,
     Role::Issue,
