@@ -14,7 +14,7 @@ use Rattle.answers.specs.Encode.{encode}
 use Rattle.answers.specs.Size.{size, block}
 use Rattle.answers.proofs.Lengths.{pad-length}
 use Rattle.answers.proofs.Sizes.{refused-fits, block-laid}
-use Rattle.calls.specs.Play.{sizes, refused-blocks}
+use Rattle.calls.specs.Play.{all-sizes, refused-blocks}
 use Rattle.calls.proofs.Scans.{from, good}
 
 splice-none : (p : ℕ) (m : List ℕ) → splice p [] m ≡ m
@@ -26,11 +26,11 @@ splice-none (suc p) (x ∷ m) = ap (λ t. x ∷ t) (splice-none p m)
 -- `all` is to stand from byte 17 on; `rest` of it is left for b on.
 pub record Laying (l all rest out₀ out : List ℕ) (at b : ℕ) : Type 0 where
   pub formed : good l at ≡ true
-  pub room : b + sizes (from l at) ≤ length out
+  pub room : b + all-sizes (from l at) ≤ length out
   pub same : length out ≡ length out₀
   pub is : splice b rest out ≡ splice 17 all out₀
 
-pub laying-first : (l all out : List ℕ) → good l 555 ≡ true → 17 + sizes (from l 555) ≤ length out → Laying l all all out out 555 17
+pub laying-first : (l all out : List ℕ) → good l 555 ≡ true → 17 + all-sizes (from l 555) ≤ length out → Laying l all all out out 555 17
 laying-first l all out g h = record { formed = g; room = h; same = refl; is = refl }
 
 module _ {l all rest out₀ out : List ℕ} {at b : ℕ} (y : Laying l all rest out₀ out at b) where
@@ -45,9 +45,9 @@ module _ {l all rest out₀ out : List ℕ} {at b : ℕ} (y : Laying l all rest 
     pub laying-call : from l at ≡ call-at l at ∷ from l (at + size-at l at)
     laying-call = calls-next l (length l) h (omega arith) (y .formed)
 
-    pub laying-sizes : b + (size (call-at l at) + sizes (from l (at + size-at l at))) ≤ length out
-    unfolding sizes
-    laying-sizes = omega (arith, y .room, ap sizes laying-call)
+    pub laying-sizes : b + (size (call-at l at) + all-sizes (from l (at + size-at l at))) ≤ length out
+    unfolding all-sizes
+    laying-sizes = omega (arith, y .room, ap all-sizes laying-call)
 
     -- As many bytes of 0 as the answer takes.
     module _ (n : ℕ) {filled : List ℕ} (f : filled ≡ splice b (replicate n 0) out) where
@@ -70,8 +70,8 @@ module _ {l all rest out₀ out : List ℕ} {at b : ℕ} (y : Laying l all rest 
         let same : length out' ≡ length out = ap length laid ∙ splice-length b (block c a) out in
         let whole : good l (at + k) ≡ true =
         ap (λ j. good l (at + j)) q ∙ rest-formed l (length l) h (omega arith) (y .formed) in
-        let less : b + n + sizes (from l (at + k)) ≤ length out' =
-        omega (arith, laying-sizes, ap (λ j. sizes (from l (at + j))) q) in
+        let less : b + n + all-sizes (from l (at + k)) ≤ length out' =
+        omega (arith, laying-sizes, ap (λ j. all-sizes (from l (at + j))) q) in
         let place : b + n ≡ b + length (block c a) = omega (arith, pad-length (encode a) fits) in
         record {
           formed = whole;

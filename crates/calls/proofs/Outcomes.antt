@@ -12,7 +12,7 @@ use Rattle.laws.proofs.Tests.{or-yes, or-yes-second, or-no, when-some-some, whe
 use Rattle.model.specs.Timeline.{splice}
 use Rattle.decoding.specs.Script.{Script, script-of, list-formed, decode}
 use Rattle.calls.specs.declared.Tally.{Tally}
-use Rattle.calls.specs.Play.{cells-needed, out-needed, short, script-bytes, script-cells, play-answer, play-cells, play-out}
+use Rattle.calls.specs.Play.{cells-needed, out-needed, short, script-answers, script-cells, play-answer, play-cells, play-out}
 use Rattle.calls.specs.Tally.{tally-of}
 
 -- ── What the tally tells ────────────────────────────────────────────────────
@@ -65,14 +65,14 @@ module _ (l m out : List ℕ) {t : Tally} (q : t ≡ tally-of (decode l)) where
 
     -- By whether the room is short.
     outcome-by : (b : Bool) → short d (length m) (length out) ≡ b
-        → Outcome l m out (cond b 13 (out-needed d)) (cond b m (script-cells d m)) (cond b out (splice 0 (script-bytes d m) out))
+        → Outcome l m out (cond b 13 (out-needed d)) (cond b m (script-cells d m)) (cond b out (splice 0 (script-answers d m) out))
     unfolding play-answer play-cells play-out
     outcome-by b s =
         let e = decoded l q f in (
           sym (when-some-some 14 _ e ∙ ap (λ x. cond x 13 (out-needed d)) s),
           (
             sym (when-some-some m _ e ∙ ap (λ x. cond x m (script-cells d m)) s),
-            sym (when-some-some out _ e ∙ ap (λ x. cond x out (splice 0 (script-bytes d m) out)) s),
+            sym (when-some-some out _ e ∙ ap (λ x. cond x out (splice 0 (script-answers d m) out)) s),
           ),
         )
 
@@ -87,7 +87,7 @@ module _ (l m out : List ℕ) {t : Tally} (q : t ≡ tally-of (decode l)) where
         (or-yes-second (ltb (length m) (cells-needed d)) (lt-ltb (length out) (out-needed d) (omega (arith, bytes-is l q f))))
 
     pub outcome-played : {m' out' : List ℕ} → t .lent ≤ length m → t .bytes ≤ length out → m' ≡ script-cells d m
-        → out' ≡ splice 0 (script-bytes d m) out → Outcome l m out (t .bytes) m' out'
+        → out' ≡ splice 0 (script-answers d m) out → Outcome l m out (t .bytes) m' out'
     unfolding short
     outcome-played h k p s =
         let fits : ltb (length m) (cells-needed d) ≡ false = le-ltb (length m) (cells-needed d) (omega (arith, lent-is l q f)) in

@@ -17,7 +17,7 @@ use Rattle.decoding.specs.Script.{calls-at, all-formed, script-of, list-formed,
 use Rattle.decoding.proofs.Script.{formed-is, all-formed-end, calls-end, all-formed-next, calls-next}
 use Rattle.answers.specs.Size.{size}
 use Rattle.calls.specs.declared.Tally.{Tally}
-use Rattle.calls.specs.Play.{lent-of, most-lent, sizes, cells-needed, out-needed}
+use Rattle.calls.specs.Play.{lent-of, most-lent, all-sizes, cells-needed, out-needed}
 use Rattle.calls.specs.Tally.{tally-of}
 use Rattle.calls.proofs.Room.{size-most}
 
@@ -52,7 +52,7 @@ good l at = all-formed (length l) l at
 -- What was counted, and the calls that are left.
 pub record Sums (l : List ℕ) (rest : List Call) (calls bytes lent : ℕ) : Type 0 where
   pub count : length (from l 555) ≡ calls + length rest
-  pub room : 17 + sizes (from l 555) ≡ bytes + sizes rest
+  pub room : 17 + all-sizes (from l 555) ≡ bytes + all-sizes rest
   pub memory : max (making-lent l) (most-lent (from l 555)) ≡ max lent (most-lent rest)
 
 pub record Scanned (l : List ℕ) (calls bytes lent at : ℕ) : Type 0 where
@@ -77,11 +77,11 @@ scanned-first l h e =
 
 sums-next : {l : List ℕ} {rest more : List Call} {c : Call} {calls bytes lent n lends most : ℕ} → rest ≡ c ∷ more → n ≡ size c → lends ≡ lent-of c
     → most ≡ max lent lends → Sums l rest calls bytes lent → Sums l more (calls + 1) (bytes + n) most
-unfolding sizes most-lent
+unfolding all-sizes most-lent
 sums-next {more = more} {c = c} {lent = lent} e p q r s =
     record {
       count = omega (arith, s .count, ap length e);
-      room = omega (arith, s .room, ap sizes e);
+      room = omega (arith, s .room, ap all-sizes e);
       memory =
           s .memory ∙ ap (λ t. max lent (most-lent t)) e ∙ max-both lent (lent-of c) (most-lent more)
           ∙ ap (λ t. max t (most-lent more)) (sym (r ∙ ap (max lent) q));
@@ -122,14 +122,14 @@ module _ {l : List ℕ} {calls bytes lent at : ℕ} (s : Scanned l calls bytes l
 
   pub scanned-last : length l ≤ 16777216 → machine-formed l ≡ true → length l ≤ at
       → record { formed = true; calls = calls; bytes = bytes; lent = lent } ≡ tally-of (decode l)
-  unfolding tally-of decode list-formed script-of cells-needed out-needed most-lent sizes
+  unfolding tally-of decode list-formed script-of cells-needed out-needed most-lent all-sizes
   scanned-last h m k =
       let end : good l at ≡ true = all-formed-end l (length l) k ∙ eq-eqb at (length l) (omega (arith, s .inside)) in
       let all : list-formed l ≡ true = and-yes (le-leb (length l) 16777216 h) (and-yes m (s .formed ∙ end)) in
       let none-left : from l at ≡ [] = calls-end l (length l) k in
       let sums = s .sums end in
       let count : calls ≡ length (from l 555) = omega (arith, sums .count, ap length none-left) in
-      let room : bytes ≡ 17 + sizes (from l 555) = omega (arith, sums .room, ap sizes none-left) in
+      let room : bytes ≡ 17 + all-sizes (from l 555) = omega (arith, sums .room, ap all-sizes none-left) in
       let memory : lent ≡ max (making-lent l) (most-lent (from l 555)) =
       sym (sums .memory ∙ ap (λ r. max lent (most-lent r)) none-left ∙ max-zero lent) in
       tally-as count room memory ∙ sym (ap tally-of (cond-yes (some (script-of l)) none all))

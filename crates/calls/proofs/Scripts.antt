@@ -33,14 +33,14 @@ use Rattle.calls.specs.Play.{
   cells-played,
   refused-blocks,
   most-lent,
-  sizes,
+  all-sizes,
   cells-needed,
   out-needed,
   header,
   cells-made,
   made-bytes,
   refused-bytes,
-  script-bytes,
+  script-answers,
   script-cells,
 }
 use Rattle.calls.specs.Tally.{tally-of}
@@ -80,9 +80,9 @@ pub record Roomy (l m out : List ℕ) (t : Tally) : Type 0 where
   pub formed : good l 555 ≡ true
   pub making : making-lent l ≤ length m
   pub lent : most-lent (from l 555) ≤ length m
-  pub room : 17 + sizes (from l 555) ≤ length out
+  pub room : 17 + all-sizes (from l 555) ≤ length out
   pub calls : t .calls ≡ length (from l 555)
-  pub bytes : t .bytes ≡ 17 + sizes (from l 555)
+  pub bytes : t .bytes ≡ 17 + all-sizes (from l 555)
 
 decode-formed : (l : List ℕ) (d : Script) → decode l ≡ some d → list-formed l ≡ true
 unfolding decode
@@ -99,7 +99,7 @@ roomy {l} {m} {out} {t} e q h k =
     let f = and-both (leb (length l) 16777216) _ (decode-formed l (script-of l) e) .1 in
     let g = and-both (machine-formed l) _ f in
     let lent : t .lent ≡ max (making-lent l) (most-lent (from l 555)) = ap (λ x. x .lent) q in
-    let bytes : t .bytes ≡ 17 + sizes (from l 555) = ap (λ x. x .bytes) q in
+    let bytes : t .bytes ≡ 17 + all-sizes (from l 555) = ap (λ x. x .bytes) q in
     record {
       long = machine-there l (g .0);
       formed = g .1;
@@ -117,7 +117,7 @@ module _ {l m out : List ℕ} {t : Tally} (r : Roomy l m out t) where
   first k = k ∷ (number-bytes (t .calls) ++ number-bytes (t .bytes))
 
   module _ (k : ℕ) {mid : List ℕ} (p : mid ≡ splice 0 (first k) out) where
-    pub header-room : 17 + sizes (from l 555) ≤ length mid
+    pub header-room : 17 + all-sizes (from l 555) ≤ length mid
     header-room = omega (arith, r .room, ap length p, splice-length 0 (first k) out)
 
     behind : (body : List ℕ) {end : List ℕ} → end ≡ splice 17 body mid → end ≡ splice 0 (header k (script-of l) ++ body) out
@@ -184,8 +184,8 @@ module _ {l m out : List ℕ} {t : Tally} (r : Roomy l m out t) where
           ∙ sym (when-some-some _ (λ (j : ℕ). m) refusal-of)
 
       pub refused-out : {mid end : List ℕ} → mid ≡ splice 0 (k ∷ (number-bytes (t .calls) ++ number-bytes (t .bytes))) out
-          → end ≡ splice 17 (refused-blocks k (from l 555)) mid → end ≡ splice 0 (script-bytes (script-of l) m) out
-      unfolding script-bytes refused-bytes script-of
+          → end ≡ splice 17 (refused-blocks k (from l 555)) mid → end ≡ splice 0 (script-answers (script-of l) m) out
+      unfolding script-answers refused-bytes script-of
       refused-out p q =
           behind r k p (refused-blocks k (from l 555)) q
           ∙ sym (ap (λ x. splice 0 x out) (when-some-some (made-bytes (script-of l) m) (refused-bytes (script-of l)) refusal-of))
@@ -214,8 +214,8 @@ module _ {l m out : List ℕ} {t : Tally} (r : Roomy l m out t) where
 
       pub done-out : {mid end : List ℕ} → mid ≡ splice 0 (0 ∷ (number-bytes (t .calls) ++ number-bytes (t .bytes))) out
           → end ≡ splice 17 (blocks (viewEngine (made .engine)) (part ++ drop n m) (from l 555)) mid
-          → end ≡ splice 0 (script-bytes (script-of l) m) out
-      unfolding script-bytes made-bytes script-of
+          → end ≡ splice 0 (script-answers (script-of l) m) out
+      unfolding script-answers made-bytes script-of
       done-out p q =
           behind r 0 p (blocks (viewEngine (made .engine)) (part ++ drop n m) (from l 555)) q
           ∙ ap (λ x. splice 0 (header 0 (script-of l) ++ x) out)

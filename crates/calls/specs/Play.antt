@@ -89,9 +89,9 @@ unfoldable pub most-lent : List Call → ℕ
 most-lent [] = 0
 most-lent (c ∷ cs) = max (lent-of c) (most-lent cs)
 
-unfoldable pub sizes : List Call → ℕ
-sizes [] = 0
-sizes (c ∷ cs) = size c + sizes cs
+unfoldable pub all-sizes : List Call → ℕ
+all-sizes [] = 0
+all-sizes (c ∷ cs) = size c + all-sizes cs
 
 -- The most bytes of cell memory that are lent, to making or a call.
 unfoldable pub cells-needed : Script → ℕ
@@ -99,7 +99,7 @@ cells-needed d = max (d .lent) (most-lent (d .calls))
 
 -- The bytes of all answers, with the 17 before them.
 unfoldable pub out-needed : Script → ℕ
-out-needed d = 17 + sizes (d .calls)
+out-needed d = 17 + all-sizes (d .calls)
 
 -- 13: the cell memory or the room for the answers is short.
 unfoldable pub short : Script → ℕ → ℕ → Bool
@@ -121,8 +121,8 @@ made-bytes d m = header 0 d ++ blocks (new (d .shape) (d .entry)) (cells-made d 
 unfoldable pub refused-bytes : Script → ℕ → List ℕ
 refused-bytes d n = header n d ++ refused-blocks n (d .calls)
 
-unfoldable pub script-bytes : Script → List ℕ → List ℕ
-script-bytes d m = when-some (make-refusal (d .shape) (d .lent)) (made-bytes d m) (refused-bytes d)
+unfoldable pub script-answers : Script → List ℕ → List ℕ
+script-answers d m = when-some (make-refusal (d .shape) (d .lent)) (made-bytes d m) (refused-bytes d)
 
 unfoldable pub script-cells : Script → List ℕ → List ℕ
 script-cells d m =
@@ -138,10 +138,10 @@ play-cells l m out = when-some (decode l) m (λ (d : Script). cond (short d (len
 
 unfoldable pub play-out : List ℕ → List ℕ → List ℕ → List ℕ
 play-out l m out =
-    when-some (decode l) out (λ (d : Script). cond (short d (length m) (length out)) out (splice 0 (script-bytes d m) out))
+    when-some (decode l) out (λ (d : Script). cond (short d (length m) (length out)) out (splice 0 (script-answers d m) out))
 
 -- All of these unfold where a line says `unfolding playing`.
 unfoldable pub playing : Unit {0}
-unfolding lent-of lend cells-after block-of blocks cells-played refused-blocks most-lent sizes cells-needed out-needed short header
-    cells-made made-bytes refused-bytes script-bytes script-cells play-answer play-cells play-out
+unfolding lent-of lend cells-after block-of blocks cells-played refused-blocks most-lent all-sizes cells-needed out-needed short header
+    cells-made made-bytes refused-bytes script-answers script-cells play-answer play-cells play-out
 playing = tt

@@ -12,7 +12,7 @@ use Rattle.answers.specs.Size.{size}
 use Rattle.scoreboard.specs.declared.ScoreboardPipeline.{ScoreboardPipeline}
 use Rattle.scoreboard.specs.View.{viewEngine}
 use Rattle.scoreboard.specs.Valid.{Valid}
-use Rattle.calls.specs.Play.{lent-of, most-lent, sizes}
+use Rattle.calls.specs.Play.{lent-of, most-lent, all-sizes}
 
 -- The call at a place is of its form, its cell memory is there, and its answer has room from b on.
 pub record Playable (l : List ℕ) (at : ℕ) (m : List ℕ) (b : ℕ) (out : List ℕ) : Type 0 where
@@ -24,7 +24,7 @@ pub record Playable (l : List ℕ) (at : ℕ) (m : List ℕ) (b : ℕ) (out : Li
 pub record AllPlayable (l m out : List ℕ) : Type 0 where
   pub formed : all-formed (length l) l 555 ≡ true
   pub lent : most-lent (calls-at (length l) l 555) ≤ length m
-  pub room : 17 + sizes (calls-at (length l) l 555) ≤ length out
+  pub room : 17 + all-sizes (calls-at (length l) l 555) ≤ length out
 
 -- The engine after a call.
 pub record Leaves (e : ScoreboardPipeline) (c : Call) (r : ScoreboardPipeline) : Type 0 where

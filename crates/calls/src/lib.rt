@@ -32,11 +32,11 @@ ghost use Rattle.decoding.specs.Machine.{machine-formed};
 ghost use Rattle.decoding.specs.Script.{calls-at, all-formed, script-of, decode};
 ghost use Rattle.answers.specs.Bytes.{number-bytes};
 ghost use Rattle.calls.specs.Play.{
-  sizes,
+  all-sizes,
   blocks,
   cells-played,
   refused-blocks,
-  script-bytes,
+  script-answers,
   script-cells,
   play-answer,
   play-cells,
@@ -125,7 +125,7 @@ fn put_header(out: &mut [u8], no: u8, calls: u64, bytes: u64)
 // Where making was refused: each call answers its number.
 fn refuse_calls(list: &[u8], out: &mut [u8], no: u8)
     requires { ⌜ all-formed (length (now list)) (now list) 555 ≡ true ⌝ }
-    requires { ⌜ 17 + sizes (calls-at (length (now list)) (now list) 555) ≤ length (now out) ⌝ }
+    requires { ⌜ 17 + all-sizes (calls-at (length (now list)) (now list) 555) ≤ length (now out) ⌝ }
     ensures { λ r. ⌜ now (out .exit) ≡ splice 17 (refused-blocks no (calls-at (length (now (list .entry))) (now (list .entry)) 555)) (now (out .entry)) ⌝ }
 {
     let mut at: usize = 555;
@@ -169,7 +169,7 @@ fn play_script(list: &[u8], cells: &mut [u8], out: &mut [u8], t: Tally)
     requires { ⌜ t .lent ≤ length (now cells) ⌝ }
     requires { ⌜ t .bytes ≤ length (now out) ⌝ }
     ensures memory { λ r. ⌜ now (cells .exit) ≡ script-cells (script-of (now (list .entry))) (now (cells .entry)) ⌝ }
-    ensures answers { λ r. ⌜ now (out .exit) ≡ splice 0 (script-bytes (script-of (now (list .entry))) (now (cells .entry))) (now (out .entry)) ⌝ }
+    ensures answers { λ r. ⌜ now (out .exit) ≡ splice 0 (script-answers (script-of (now (list .entry))) (now (cells .entry))) (now (out .entry)) ⌝ }
 {
     let shape = shape_at(list);
     let entry = number_at(list, 65);
