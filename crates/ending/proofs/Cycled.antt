@@ -53,7 +53,7 @@ module _ (s : State) (h : Invariant s) (out : s .front .in-cycle ≡ false) (run
       × (middle .front .faulted ≡ s .front .faulted)
   middle-front = started-front (middle .front) (settled-same (start-cycle s .offer .writing) (start-cycle s) .front)
 
-  middle-running : stops middle ≡ false
+  pub middle-running : stops middle ≡ false
   unfolding stops
   middle-running = ap₂ _||_ (middle-front .1) (middle-front .2) ∙ running
 

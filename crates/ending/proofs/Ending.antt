@@ -134,7 +134,7 @@ module _ (input : Text) (cells : List ℕ) (p : make-refusal forecast-shape (len
   unfolding everything left work op-work unit-work total
   first-left = omega arith
 
-begun-turned : (input : Text) (cells : List ℕ) → Turned input (suc (25 * line-count input)) (begun input cells)
+pub begun-turned : (input : Text) (cells : List ℕ) → Turned input (suc (25 * line-count input)) (begun input cells)
 unfolding begun begun-made make
 begun-turned input cells = go (make-refusal forecast-shape (length cells)) refl
   where
@@ -160,7 +160,7 @@ begun-turned input cells = go (make-refusal forecast-shape (length cells)) refl
 
 -- ── The theorem ─────────────────────────────────────────────────────────────
 
-as-run : (input : Text) (cells : List ℕ) → forecast-of input cells ≡ forecast-run (fuel-for input) (begun input cells)
+pub as-run : (input : Text) (cells : List ℕ) → forecast-of input cells ≡ forecast-run (fuel-for input) (begun input cells)
 unfolding forecast-of forecast-made begun begun-made
 as-run input cells = go (make forecast-shape 0 cells)
   where

@@ -26,11 +26,11 @@ unfolding forecasts calls
 play-taken c s m p =
     ap (λ (o : Option ℕ). lent-of (when-some o (run s c) (λ (n : ℕ). s)) (when-some o (write-all (sets s c) m) (λ (n : ℕ). m))) p
 
-start-played : (s : State) (m : List ℕ) → s .front .in-cycle ≡ false → play start (lent-of s m) ≡ lent-of (start-cycle s) m
+pub start-played : (s : State) (m : List ℕ) → s .front .in-cycle ≡ false → play start (lent-of s m) ≡ lent-of (start-cycle s) m
 unfolding calls timeline
 start-played s m e = play-taken start s m (all-fail (checks s start) (e, tt))
 
-retire-played
+pub retire-played
     : (t : State) (m : List ℕ) → t .front .in-cycle ≡ true → t .offer .retired ≡ false
     → retire-offer (lent-of t m) ≡ lent-of (settled (t .offer .writing) t) m
 unfolding forecasts calls writing settled timeline
@@ -69,7 +69,7 @@ started-memory : (s : State) (n : ℕ) → short-memory (start-cycle s) n ≡ sh
 unfolding writing calls
 started-memory s n = refl
 
-started-open : (s : State) → (start-cycle s .front .in-cycle ≡ true) × (start-cycle s .offer .retired ≡ false)
+pub started-open : (s : State) → (start-cycle s .front .in-cycle ≡ true) × (start-cycle s .offer .retired ≡ false)
 unfolding writing
 started-open s = (refl, refl)
 

@@ -136,16 +136,16 @@ unfolding units
 marked-part bs us = marked-same part (λ x v. refl) bs us
 
 module _ (s : State) (h : Invariant s) (out : s .front .in-cycle ≡ false) where
-  abbrev before : State
+  abbrev pub before : State
   before = before-issue none (closed (settled (start-cycle s .offer .writing) (start-cycle s)))
 
-  abbrev middle : State
+  abbrev pub middle : State
   middle = settled (start-cycle s .offer .writing) (start-cycle s)
 
   flight : Flight s
   flight = kept-of s h .flight
 
-  unoffered : Unoffered before
+  pub unoffered : Unoffered before
   unoffered =
       unoffered-before none (closed middle)
       (unoffered-closed middle (settled-flight (start-cycle s .offer .writing) (start-cycle s) (flight-start s out flight)))
@@ -190,13 +190,13 @@ module _ (s : State) (h : Invariant s) (out : s .front .in-cycle ≡ false) wher
   work-most =
       omega (arith, rest-most, work-before (closed middle), work-closed middle, middle-work, work-started s)
 
-  closed-marked : found s ≡ none → closed middle .units ≡ marked s
+  pub closed-marked : found s ≡ none → closed middle .units ≡ marked s
   unfolding writing
   closed-marked e =
       let a = settled-same (start-cycle s .offer .writing) (start-cycle s) in
       closed-units middle (a .writing ∙ e) ∙ a .units ∙ ap (λ (f : Option ℕ). take-out f (marked s)) e
 
-  cleared-consistent
+  pub cleared-consistent
       : Consistent (λ j. entry-at none j (nth (cleared s) j)) (producer-of (s .producer)) (s .marks .branch) (s .marks .system)
       (front-number (s .queue) (s .front .next-seq))
   unfolding units

@@ -147,7 +147,7 @@ fetched-number
 unfolding scoreboard
 fetched-number g k s h p = next-number (s .front .next-seq) (h .next-few) (fetch-taken s g k p .number)
 
-fetch-played
+pub fetch-played
     : (g : Given) (k : ℕ) (s : State) (m : List ℕ) → refusal s (fetch g k) ≡ none
     → play (fetch g k) (lent-of s m) ≡ lent-of (fetched g s) (write-all (sets s (fetch g k)) m)
 unfolding run
@@ -212,7 +212,7 @@ cycle-invariant e h =
         go false = k
 
 module _ (input : Text) (e : Lent) (rest : Text) (n : ℕ) (h : Between input e rest n) where
-  memory-there : short-memory (e .engine) (length (e .cells)) ≡ false
+  pub memory-there : short-memory (e .engine) (length (e .cells)) ≡ false
   unfolding calls machine-of forecast-shape
   memory-there =
       let l : e .engine .machine .history ≡ 256 = ap (λ (m : Machine). m .history) (h .machine) in

@@ -6,6 +6,7 @@ use mathlib.Core.Bool.{Bool, true, false, cond, _&&_, true≢false}
 use mathlib.Core.Option.{Option, none, some}
 use mathlib.Core.List.{List, [], _∷_, map}
 use lib.Dec.{eqb}
+use borrow.Author.Tests.{eqb-true}
 use Rattle.laws.specs.Lists.{is-empty, modify, nth}
 use Rattle.laws.proofs.Choices.{none-some}
 use Rattle.capability.specs.Numbers.{numbers, phase-number}
@@ -106,14 +107,14 @@ abbrev worked : Bool → Phase → ℕ → Bool → ℕ
 worked b p c e =
     begun-and-read b (cond ((b && eqb (phase-number p) 2) && eqb c 0) Write p) (cond (b && eqb (phase-number p) 2) (c - 1) c) e
 
-abbrev three : FunctionalUnit → FunctionalUnit
+abbrev pub three : FunctionalUnit → FunctionalUnit
 three u = read-one (begin (tick u))
 
 work-three : (u : FunctionalUnit) → unit-work (three u) ≤ unit-work u
 work-three u = omega (arith, work-read (begin (tick u)), work-begin (tick u), work-tick u)
 
 -- A busy unit that is not finished, and waits for nothing, needs one cycle less.
-work-less
+pub work-less
     : (u : FunctionalUnit) → u .busy ≡ true → u .pending ≡ [] → (u .phase ≡ Write → ⊥) → unit-work (three u) < unit-work u
 unfolding units numbers unit-work phase-work is-empty
 work-less u b w n =
@@ -133,6 +134,23 @@ work-less u b w n =
     go Read c k = omega arith
     go Execute c k = run c (eqb c 0) refl
     go Write c k = absurd (k refl)
+
+-- No unit needs more than one cycle less.
+pub work-slow : (u : FunctionalUnit) → unit-work u ≤ suc (unit-work (three u))
+unfolding units numbers unit-work phase-work
+work-slow u = go (u .busy) (u .phase) (u .op .core .cycles-left) (is-empty (u .pending))
+  where
+    run : (c : ℕ) (d e : Bool) → eqb c 0 ≡ d → phase-work Execute c ≤ suc (begun-and-read true (cond d Write Execute) (c - 1) e)
+    run c true e q = let z : c ≡ 0 = eqb-true c 0 q in omega arith
+    run c false e q = omega arith
+
+    go : (b : Bool) (p : Phase) (c : ℕ) (e : Bool) → cond b (phase-work p c) 0 ≤ suc (worked b p c e)
+    go false p c e = omega arith
+    go true Wait c true = omega arith
+    go true Wait c false = omega arith
+    go true Read c e = omega arith
+    go true Execute c e = run c (eqb c 0) e refl
+    go true Write c e = omega arith
 
 -- ── The units ───────────────────────────────────────────────────────────────
 
@@ -159,7 +177,7 @@ work-out us i u e b p =
     let x : unit-work u ≡ 1 = ap₂ (λ (t : Bool) (q : Phase). cond t (phase-work q (u .op .core .cycles-left)) 0) b p in
     omega (arith, x, total-modify-at unit-work (with-busy false) i us u e)
 
-map-three : (us : List FunctionalUnit) → map read-one (map begin (map tick us)) ≡ map three us
+pub map-three : (us : List FunctionalUnit) → map read-one (map begin (map tick us)) ≡ map three us
 map-three [] = refl
 map-three (u ∷ us) = ap (λ (l : List FunctionalUnit). three u ∷ l) (map-three us)
 
