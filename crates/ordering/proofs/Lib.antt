@@ -1,2 +1,3 @@
 pub mod Ahead
+pub mod Turned
 pub mod Sample
