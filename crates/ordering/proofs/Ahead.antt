@@ -8,6 +8,7 @@ use mathlib.Core.List.{List, [], _∷_, map}
 use mathlib.Core.Logic.{_⊎_, inl, inr}
 use lib.Dec.{eqb}
 use lib.ListN.{length}
+use borrow.Author.Tests.{eqb-false, eqb-true}
 use Rattle.laws.specs.Lists.{is-empty, modify, nth}
 use Rattle.laws.specs.Optional.{omap}
 use Rattle.laws.proofs.Choices.{some-inj}
@@ -23,6 +24,19 @@ use Rattle.model.specs.Units.{FunctionalUnit, begin, in-phase, occupy, read-one
 use Rattle.invariant.proofs.Lists.{length-modify, nth-image, nth-other, nth-same, nth-short, omap-back}
 use Rattle.ending.proofs.Work.{phase-work, three, unit-work, work-less, work-slow}
 use Rattle.ending.proofs.Oldest.{Oldest}
+
+-- What stands in a list with one element changed.
+pub modify-back
+    : {A : Type 0} (f : A → A) (k : ℕ) (xs : List A) (i : ℕ) (a : A) → nth (modify k f xs) i ≡ some a
+    → ((x : A) × (nth xs i ≡ some x) × (a ≡ f x)) ⊎ (nth xs i ≡ some a)
+modify-back {A} f k xs i a e = go (eqb i k) refl
+  where
+    go : (b : Bool) → eqb i k ≡ b → ((x : A) × (nth xs i ≡ some x) × (a ≡ f x)) ⊎ (nth xs i ≡ some a)
+    go true t =
+        let q = eqb-true i k t in
+        let w = omap-back f (nth xs k) a (sym (nth-same f xs k) ∙ ap (nth (modify k f xs)) (sym q) ∙ e) in
+        inl (w .0, ap (nth xs) q ∙ w .1, sym (w .2))
+    go false t = inr (sym (nth-other f xs k i (eqb-false i k t)) ∙ e)
 
 -- ── The record ──────────────────────────────────────────────────────────────
 
@@ -44,6 +58,12 @@ pub record Ahead (us : List FunctionalUnit) : Type 0 where
   pub ahead
       : (i j : ℕ) (u v : FunctionalUnit) → nth us i ≡ some u → nth us j ≡ some v → Access u → Access v → Older u v
       → unit-work u < unit-work v
+
+-- Nothing holds the older of two up.
+abbrev pub Free-to-go : List FunctionalUnit → Type 0
+Free-to-go us =
+    (i j : ℕ) (u v : FunctionalUnit) → nth us i ≡ some u → nth us j ≡ some v → Access u → Access v → Older u v
+    → (u .pending ≡ []) × (u .phase ≡ Write → ⊥)
 
 -- ── Two units ───────────────────────────────────────────────────────────────
 
@@ -71,11 +91,11 @@ module _ (us : List FunctionalUnit) (two : length us ≡ 2) where
                   down (inl m) = inr (omega arith)
                   down (inr m) = inl (omega arith)
 
+  same : (k m : ℕ) (w x : FunctionalUnit) → nth us k ≡ some w → nth us m ≡ some x → k ≡ m → w .op .core .seq ≡ x .op .core .seq
+  same k m w x c d e = ap (λ (y : FunctionalUnit). y .op .core .seq) (some-inj w x (sym c ∙ ap (nth us) e ∙ d))
+
   apart : (i j : ℕ) (u v : FunctionalUnit) → nth us i ≡ some u → nth us j ≡ some v → Older u v → i ≡ j → ⊥
-  apart i j u v a b l e =
-      let q : u ≡ v = some-inj u v (sym a ∙ ap (nth us) e ∙ b) in
-      let s : u .op .core .seq ≡ v .op .core .seq = ap (λ (x : FunctionalUnit). x .op .core .seq) q in
-      omega (arith, s, l)
+  apart i j u v a b l e = omega (arith, same i j u v a b e, l)
 
   -- The older of two is the oldest.
   pub older-oldest
@@ -87,35 +107,42 @@ module _ (us : List FunctionalUnit) (two : length us ≡ 2) where
         least = λ k w c x. go k w c (third i j k u v w a b c (apart i j u v a b l));
       }
     where
-      same : (k m : ℕ) (w x : FunctionalUnit) → nth us k ≡ some w → nth us m ≡ some x → k ≡ m → w .op .core .seq ≡ x .op .core .seq
-      same k m w x c d e = ap (λ (y : FunctionalUnit). y .op .core .seq) (some-inj w x (sym c ∙ ap (nth us) e ∙ d))
-
       go : (k : ℕ) (w : FunctionalUnit) → nth us k ≡ some w → (k ≡ i) ⊎ (k ≡ j) → u .op .core .seq ≤ w .op .core .seq
       go k w c (inl e) = omega (arith, same k i w u c a e)
       go k w c (inr e) = omega (arith, same k j w v c b e, l)
 
-  -- With one of the two free there is no pair.
-  pub free-ahead
-      : ((i : ℕ) (u : FunctionalUnit) → nth us i ≡ some u → Quick (u .class) (u .op)) → (k : ℕ) (w : FunctionalUnit) → nth us k ≡ some w
-      → w .busy ≡ false → Ahead us
-  free-ahead q k w c f =
-      record {
-        two = two;
-        quick = q;
-        ahead = λ i j u v a b x y l. absurd (no-pair i j u v a b (x .busy) (y .busy) l);
-      }
-    where
-      not-it : (i : ℕ) (u : FunctionalUnit) → nth us i ≡ some u → u .busy ≡ true → k ≡ i → ⊥
-      not-it i u a t e =
-          true≢false (sym t ∙ ap (λ (x : FunctionalUnit). x .busy) (some-inj u w (sym a ∙ ap (nth us) (sym e) ∙ c)) ∙ f)
+  -- With one of the two free a busy unit is the oldest, and there is no pair.
+  module _ (k : ℕ) (w : FunctionalUnit) (c : nth us k ≡ some w) (f : w .busy ≡ false) where
+    not-it : (i : ℕ) (u : FunctionalUnit) → nth us i ≡ some u → u .busy ≡ true → k ≡ i → ⊥
+    not-it i u a t e =
+        true≢false (sym t ∙ ap (λ (x : FunctionalUnit). x .busy) (some-inj u w (sym a ∙ ap (nth us) (sym e) ∙ c)) ∙ f)
 
-      no-pair
-          : (i j : ℕ) (u v : FunctionalUnit) → nth us i ≡ some u → nth us j ≡ some v → u .busy ≡ true → v .busy ≡ true → Older u v → ⊥
-      no-pair i j u v a b s t l = go (third i j k u v w a b c (apart i j u v a b l))
-        where
-          go : (k ≡ i) ⊎ (k ≡ j) → ⊥
-          go (inl e) = not-it i u a s e
-          go (inr e) = not-it j v b t e
+    pub busy-oldest : (i : ℕ) (u : FunctionalUnit) → nth us i ≡ some u → u .busy ≡ true → Oldest us i u
+    busy-oldest i u a t =
+        record { at = a; busy = t; least = λ j v b x. go j v b x (third k i j w u v c a b (not-it i u a t)) }
+      where
+        go : (j : ℕ) (v : FunctionalUnit) → nth us j ≡ some v → v .busy ≡ true → (j ≡ k) ⊎ (j ≡ i) → u .op .core .seq ≤ v .op .core .seq
+        go j v b x (inl e) = absurd (not-it j v b x (sym e))
+        go j v b x (inr e) = omega (arith, same j i v u b a e)
+
+    no-pair
+        : (i j : ℕ) (u v : FunctionalUnit) → nth us i ≡ some u → nth us j ≡ some v → u .busy ≡ true → v .busy ≡ true → Older u v → ⊥
+    no-pair i j u v a b s t l = go (third i j k u v w a b c (apart i j u v a b l))
+      where
+        go : (k ≡ i) ⊎ (k ≡ j) → ⊥
+        go (inl e) = not-it i u a s e
+        go (inr e) = not-it j v b t e
+
+    pub free-ahead : ((i : ℕ) (u : FunctionalUnit) → nth us i ≡ some u → Quick (u .class) (u .op)) → Ahead us
+    free-ahead q =
+        record {
+          two = two;
+          quick = q;
+          ahead = λ i j u v a b x y l. absurd (no-pair i j u v a b (x .busy) (y .busy) l);
+        }
+
+    pub free-to-go : Free-to-go us
+    free-to-go i j u v a b x y l = absurd (no-pair i j u v a b (x .busy) (y .busy) l)
 
 -- ── Changes that do not count ───────────────────────────────────────────────
 
@@ -160,13 +187,7 @@ ahead-as us vs h a =
 
 -- ── Execute, read and begin ─────────────────────────────────────────────────
 
--- Nothing holds the older of two up.
-abbrev pub Free-to-go : List FunctionalUnit → Type 0
-Free-to-go us =
-    (i j : ℕ) (u v : FunctionalUnit) → nth us i ≡ some u → nth us j ≡ some v → Access u → Access v → Older u v
-    → (u .pending ≡ []) × (u .phase ≡ Write → ⊥)
-
-three-back
+pub three-back
     : (us : List FunctionalUnit) (i : ℕ) (w : FunctionalUnit) → nth (map three us) i ≡ some w
     → (u : FunctionalUnit) × (nth us i ≡ some u) × (three u ≡ w)
 three-back us i w e = omap-back three (nth us i) w (sym (nth-map three us i) ∙ e)

@@ -1,3 +1,4 @@
 pub mod Ahead
 pub mod Turned
+pub mod Placed
 pub mod Sample
