@@ -1,4 +1,5 @@
 pub mod Ahead
 pub mod Turned
 pub mod Placed
+pub mod Orderly
 pub mod Sample
