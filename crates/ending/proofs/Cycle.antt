@@ -53,7 +53,7 @@ module _ (s : State) where
   marked = mark-blocked (writable-unit cleared .turned-away) cleared
 
   -- The unit found is busy and finished, also after the marks.
-  still-finished
+  pub still-finished
       : (i : ℕ) → found ≡ some i → (u : FunctionalUnit) × (nth marked i ≡ some u) × (u .busy ≡ true) × (u .phase ≡ Write)
   unfolding units
   still-finished i e =

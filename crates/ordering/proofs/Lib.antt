@@ -2,4 +2,5 @@ pub mod Ahead
 pub mod Turned
 pub mod Placed
 pub mod Orderly
+pub mod Cycled
 pub mod Sample
