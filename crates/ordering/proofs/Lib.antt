@@ -3,4 +3,4 @@ pub mod Turned
 pub mod Placed
 pub mod Orderly
 pub mod Cycled
-pub mod Sample
+pub mod Ordering
