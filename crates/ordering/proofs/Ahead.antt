@@ -1,27 +1,25 @@
 -- Of two loads or stores in the two units the older is ahead: it needs fewer cycles.
-use Prim.Native.Nat.{ℕ, suc, _+_, _-_, _≤_, _<_}
+use Prim.Native.Nat.{ℕ, _-_, _≤_, _<_}
 use native.Mathlib.Omega.{arith}
-use mathlib.Core.Path.{_≡_, refl, sym, _∙_, ap, ap₂, subst}
-use mathlib.Core.Bool.{Bool, true, false, cond, _&&_, true≢false}
-use mathlib.Core.Option.{Option, none, some}
-use mathlib.Core.List.{List, [], _∷_, map}
+use mathlib.Core.Path.{_≡_, refl, sym, _∙_, ap, subst}
+use mathlib.Core.Bool.{Bool, true, false, cond, true≢false}
+use mathlib.Core.Option.{some}
+use mathlib.Core.List.{List, [], map}
 use mathlib.Core.Logic.{_⊎_, inl, inr}
 use lib.Dec.{eqb}
 use lib.ListN.{length}
 use borrow.Author.Tests.{eqb-false, eqb-true}
-use Rattle.laws.specs.Lists.{is-empty, modify, nth}
-use Rattle.laws.specs.Optional.{omap}
+use Rattle.laws.specs.Lists.{modify, nth}
 use Rattle.laws.proofs.Choices.{some-inj}
 use Rattle.laws.proofs.Maps.{length-of, nth-map}
 use Rattle.laws.proofs.Tests.{lt-or-ge}
-use Rattle.capability.specs.Numbers.{numbers, phase-number}
 use Rattle.capability.specs.declared.Phase.{Phase}
-use Rattle.capability.specs.declared.Phase.the-variants.{Execute, Read, Wait, Write}
+use Rattle.capability.specs.declared.Phase.the-variants.{Execute, Read, Write}
 use Rattle.capability.specs.declared.PipelineInstructionClass.{PipelineInstructionClass}
 use Rattle.model.specs.Config.{is-memory}
 use Rattle.model.specs.Op.{Op}
-use Rattle.model.specs.Units.{FunctionalUnit, begin, in-phase, occupy, read-one, tick, units}
-use Rattle.invariant.proofs.Lists.{length-modify, nth-image, nth-other, nth-same, nth-short, omap-back}
+use Rattle.model.specs.Units.{FunctionalUnit, begin, in-phase, tick, units}
+use Rattle.invariant.proofs.Lists.{nth-image, nth-other, nth-same, nth-short, omap-back}
 use Rattle.ending.proofs.Work.{phase-work, three, unit-work, work-less, work-slow}
 use Rattle.ending.proofs.Oldest.{Oldest}
 
@@ -75,21 +73,14 @@ module _ (us : List FunctionalUnit) (two : length us ≡ 2) where
       at i j k (omega (arith, two, nth-short us i u a)) (omega (arith, two, nth-short us j v b)) (omega (arith, two, nth-short us k w c)) n
     where
       at : (i j k : ℕ) → i < 2 → j < 2 → k < 2 → (i ≡ j → ⊥) → (k ≡ i) ⊎ (k ≡ j)
-      at i j k li lj lk n = by (lt-or-ge i j) (lt-or-ge i k)
+      at i j k li lj lk n = by (lt-or-ge i j) (lt-or-ge j i) (lt-or-ge k 1)
         where
-          by : (i < j) ⊎ (j ≤ i) → (i < k) ⊎ (k ≤ i) → (k ≡ i) ⊎ (k ≡ j)
-          by (inl x) (inl y) = inr (omega arith)
-          by (inl x) (inr y) = inl (omega arith)
-          by (inr x) y = up (lt-or-ge j i) y
-            where
-              up : (j < i) ⊎ (i ≤ j) → (i < k) ⊎ (k ≤ i) → (k ≡ i) ⊎ (k ≡ j)
-              up (inr z) y = absurd (n (omega arith))
-              up (inl z) (inl y) = absurd (omega arith)
-              up (inl z) (inr y) = down (lt-or-ge k i)
-                where
-                  down : (k < i) ⊎ (i ≤ k) → (k ≡ i) ⊎ (k ≡ j)
-                  down (inl m) = inr (omega arith)
-                  down (inr m) = inl (omega arith)
+          by : (i < j) ⊎ (j ≤ i) → (j < i) ⊎ (i ≤ j) → (k < 1) ⊎ (1 ≤ k) → (k ≡ i) ⊎ (k ≡ j)
+          by (inl x) y (inl z) = inl (omega arith)
+          by (inl x) y (inr z) = inr (omega arith)
+          by (inr x) (inl y) (inl z) = inr (omega arith)
+          by (inr x) (inl y) (inr z) = inl (omega arith)
+          by (inr x) (inr y) z = absurd (n (omega arith))
 
   same : (k m : ℕ) (w x : FunctionalUnit) → nth us k ≡ some w → nth us m ≡ some x → k ≡ m → w .op .core .seq ≡ x .op .core .seq
   same k m w x c d e = ap (λ (y : FunctionalUnit). y .op .core .seq) (some-inj w x (sym c ∙ ap (nth us) e ∙ d))

@@ -1,7 +1,6 @@
 -- A cycle in which every offer is retired keeps loads and stores in order, and lists no wait for memory order.
-use Prim.Native.Nat.{ℕ, _≤_, _<_}
-use native.Mathlib.Omega.{arith}
-use mathlib.Core.Path.{_≡_, refl, sym, _∙_, ap, ap₂, subst}
+use Prim.Native.Nat.{ℕ, _<_}
+use mathlib.Core.Path.{_≡_, refl, sym, _∙_, ap, subst}
 use mathlib.Core.Bool.{Bool, true, false, _||_, false≢true}
 use mathlib.Core.Option.{Option, none, some}
 use mathlib.Core.List.{List, [], _∷_, map}
@@ -11,25 +10,23 @@ use Rattle.laws.specs.Lists.{All, modify, nth}
 use Rattle.laws.specs.Optional.{omap}
 use Rattle.laws.proofs.Maps.{length-of, nth-map}
 use Rattle.capability.specs.Numbers.{numbers}
-use Rattle.capability.specs.declared.Phase.{Phase}
-use Rattle.capability.specs.declared.Phase.the-variants.{Wait, Write}
+use Rattle.capability.specs.declared.Phase.the-variants.{Wait}
 use Rattle.model.specs.Config.{config, is-memory}
 use Rattle.model.specs.Op.{Op, with-hazard}
 use Rattle.model.specs.Registers.{producer-of}
 use Rattle.model.specs.State.{Log, State, stall-all}
 use Rattle.model.specs.Units.{FunctionalUnit, clear, clear-hazard, units, with-busy, without-waits}
-use Rattle.model.specs.Write.{mark-blocked, start-cycle, take-out, writable-unit, writing}
+use Rattle.model.specs.Write.{start-cycle, take-out, writable-unit, writing}
 use Rattle.model.specs.Issue.{complete-offer, issue, issuing}
-use Rattle.model.specs.Scoreboard.{before-issue, close-cycle, closed, scoreboard, stops}
+use Rattle.model.specs.Scoreboard.{close-cycle, closed, scoreboard, stops}
 use Rattle.runs.proofs.Tracks.{all-map}
 use Rattle.invariant.specs.Invariant.{Invariant, front-number, offered}
 use Rattle.invariant.proofs.Lists.{length-modify, map-same, nth-image, nth-same, omap-back}
 use Rattle.invariant.proofs.Consistent.{Consistent}
 use Rattle.invariant.proofs.Entries.{entry, entry-at, entry-held, marked-same}
-use Rattle.ending.proofs.Oldest.{Oldest, oldest-unblocked, oldest-unwaiting}
+use Rattle.ending.proofs.Oldest.{oldest-unblocked, oldest-unwaiting}
 use Rattle.ending.proofs.Offered.{unblocked-offered}
-use Rattle.ending.proofs.Work.{three}
-use Rattle.ending.proofs.Cycle.{advance-runs, advanced, cleared, closed-log, closed-queue, cycled, found, marked, settled, settled-same, still-finished}
+use Rattle.ending.proofs.Cycle.{advance-runs, cleared, closed-log, closed-queue, cycled, found, marked, settled, settled-same, still-finished}
 use Rattle.ending.proofs.Progress.{before, cleared-consistent, closed-marked, middle, unoffered}
 use Rattle.ending.proofs.Cycled.{middle-running}
 use Rattle.ordering.specs.Ordering.{None-orders}
@@ -128,11 +125,11 @@ module _ (s : State) (h : Invariant s) (out : s .front .in-cycle ≡ false) (o :
   free-cleared e i j u v a b x y l =
       let q = older-oldest (cleared s) (ahead-cleared .two) i j u v a b (x .busy) l in (
         oldest-unwaiting (cleared s) (producer-of (s .producer)) (s .marks .branch) (s .marks .system)
-        (front-number (s .queue) (s .front .next-seq)) (cleared-consistent s h out) i u q,
+            (front-number (s .queue) (s .front .next-seq)) (cleared-consistent s h out) i u q,
         λ p.
-        unblocked-offered (cleared s) e i u a (x .busy) p
-        (oldest-unblocked (cleared s) (producer-of (s .producer)) (s .marks .branch) (s .marks .system)
-        (front-number (s .queue) (s .front .next-seq)) (cleared-consistent s h out) i u q),
+            unblocked-offered (cleared s) e i u a (x .busy) p
+            (oldest-unblocked (cleared s) (producer-of (s .producer)) (s .marks .branch) (s .marks .system)
+            (front-number (s .queue) (s .front .next-seq)) (cleared-consistent s h out) i u q),
       )
 
   free-marked : found s ≡ none → Free-to-go (marked s)

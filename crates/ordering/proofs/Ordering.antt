@@ -5,7 +5,7 @@ use mathlib.Core.Bool.{Bool, true, false, false≢true, _&&_}
 use mathlib.Core.Option.{Option, none, some}
 use mathlib.Core.List.{List, [], _∷_}
 use lib.ListN.{length}
-use Rattle.laws.specs.Lists.{All, is-empty, nth}
+use Rattle.laws.specs.Lists.{All, is-empty}
 use Rattle.laws.specs.Optional.{when-some}
 use Rattle.laws.specs.Texts.{Text}
 use Rattle.model.specs.Config.{machine-of}
@@ -18,13 +18,13 @@ use Rattle.model.specs.Everything.{everything}
 use Rattle.model.specs.Forecast.{Lent, Line, Run, cycle, cycle-and-line, excess, fetch-line, finished, first-line, forecast-run, forecast-shape, fuel-for, going, lent-of, line-given, line-refused, not-made, other-lines, parse, play, retire-offer, take-fetched, take-line, take-parsed, turn}
 use Rattle.invariant.proofs.Lists.{all-at}
 use Rattle.ending.specs.Ending.{Outcome, begun, begun-made, next-turn}
-use Rattle.ending.proofs.Cycle.{cycled, settled}
+use Rattle.ending.proofs.Cycle.{cycled}
 use Rattle.ending.proofs.Cycled.{cycled-facts}
 use Rattle.ending.proofs.Played.{cycle-played, retire-played, start-played, started-open}
 use Rattle.ending.proofs.Turn.{Between, Turned, fetch-played, left, memory-there, on, over, turned}
 use Rattle.ending.proofs.Ending.{as-run, begun-turned, one-turn-more}
-use Rattle.ordering.specs.Ordering.{None-orders, Ordering, Overwriting-waits, waits, waits-of}
-use Rattle.ordering.proofs.Ahead.{Ahead, Quick, free-ahead}
+use Rattle.ordering.specs.Ordering.{None-orders, Ordering, Overwriting-waits, Third-unit-orders, waits, waits-of}
+use Rattle.ordering.proofs.Ahead.{Quick, free-ahead}
 use Rattle.ordering.proofs.Orderly.{Orderly, orderly-fetched}
 use Rattle.ordering.proofs.Cycled.{orderly-cycled, retire-waits, start-waits}
 
@@ -188,3 +188,7 @@ never-orders input cells =
 pub overwriting-waits : Overwriting-waits
 unfolding everything begun begun-made
 overwriting-waits = refl
+
+pub third-unit-orders : Third-unit-orders
+unfolding everything
+third-unit-orders = refl

@@ -1,11 +1,11 @@
 -- An engine whose loads and stores are in order: what the steps of an advance keep, and a fetch.
 use Prim.Native.Nat.{ℕ, _≤_, _<_}
 use native.Mathlib.Omega.{arith}
-use mathlib.Core.Path.{_≡_, refl, sym, _∙_, ap, subst}
+use mathlib.Core.Path.{_≡_, refl, sym, subst}
 use mathlib.Core.Bool.{Bool, true, false, false≢true}
 use mathlib.Core.Option.{Option, none, some}
 use mathlib.Core.List.{List, [], _∷_, map}
-use Rattle.laws.specs.Lists.{All, keep, modify, nth}
+use Rattle.laws.specs.Lists.{All, keep, nth}
 use Rattle.laws.specs.Texts.{Text}
 use Rattle.capability.specs.declared.PipelineHazardKind.{PipelineHazardKind}
 use Rattle.capability.specs.declared.PipelineHazardKind.the-variants.{BranchFlush, FunctionalUnitBusy, WriteAfterWrite}

@@ -1,7 +1,7 @@
 -- Where the older of two loads or stores is ahead, no finished unit is turned away for memory order.
-use Prim.Native.Nat.{ℕ, zero, suc, _+_, _≤_, _<_}
+use Prim.Native.Nat.{ℕ, suc, _+_, _≤_}
 use native.Mathlib.Omega.{arith}
-use mathlib.Core.Path.{_≡_, refl, sym, _∙_, ap, ap₂, subst}
+use mathlib.Core.Path.{_≡_, refl, sym, _∙_, ap, subst}
 use mathlib.Core.Bool.{Bool, true, false, cond, not, _&&_}
 use mathlib.Core.Option.{Option, none, some}
 use mathlib.Core.List.{List, [], _∷_, map}
@@ -19,7 +19,7 @@ use Rattle.model.specs.Config.{is-memory, is-system}
 use Rattle.model.specs.Traces.{Trace}
 use Rattle.model.specs.Units.{FunctionalUnit, idle-unit, in-phase, seq-of, unit-at, units}
 use Rattle.model.specs.Write.{Blocked, blocked-detail, blocked-trace, drain, drain-blocked, insert, memory, memory-blocked, older-memory, other-busy, ready-at, reads, try-one, try-writes, war, war-reader, writable-unit, write-blocked, writing}
-use Rattle.runs.proofs.Tracks.{all-map, all-weaken}
+use Rattle.runs.proofs.Tracks.{all-map}
 use Rattle.invariant.proofs.Bools.{and-both}
 use Rattle.invariant.proofs.Lists.{find-hit}
 use Rattle.ending.proofs.Work.{phase-work, unit-work}

@@ -2,11 +2,14 @@
 use Prim.Native.Nat.{ℕ}
 use mathlib.Core.Path.{_≡_}
 use mathlib.Core.Bool.{Bool, true, false}
+use mathlib.Core.Option.{none, some}
 use mathlib.Core.List.{List, [], _∷_}
 use lib.ListN.{replicate}
 use Rattle.laws.specs.Lists.{All}
 use Rattle.laws.specs.Texts.{Text, bytes}
-use Rattle.capability.specs.declared.PipelineHazardKind.the-variants.{WriteAfterRead}
+use Rattle.capability.specs.declared.PipelineHazardKind.the-variants.{ReadAfterWrite, FunctionalUnitBusy, WriteAfterRead}
+use Rattle.capability.specs.declared.PipelineInstructionClass.the-variants.{Alu}
+use Rattle.model.specs.Config.{default-timing, unit-spec, pipeline-shape}
 use Rattle.model.specs.Traces.{
   Detail,
   overwrites,
@@ -20,12 +23,28 @@ use Rattle.model.specs.Traces.{
   redirect-to,
   Trace,
   trace-of,
+  ISSUE,
   READ,
+  EXECUTE,
   WRITE,
 }
-use Rattle.model.specs.State.{State}
-use Rattle.model.specs.Calls.{start}
-use Rattle.model.specs.Forecast.{Lent, play, Run, not-made, line-refused, finished, going, retire-offer, cycle, forecast-run, forecast-of}
+use Rattle.model.specs.State.{new}
+use Rattle.model.specs.Calls.{start, overlap}
+use Rattle.model.specs.Forecast.{
+  forecast-shape,
+  Lent,
+  lent-of,
+  play,
+  Run,
+  not-made,
+  line-refused,
+  finished,
+  going,
+  retire-offer,
+  cycle,
+  forecast-run,
+  forecast-of,
+}
 use Rattle.ending.specs.Ending.{begun}
 
 -- ── The wait ────────────────────────────────────────────────────────────────
@@ -72,10 +91,25 @@ pub record Ordering (input : Text) (cells : List ℕ) : Type 0 where
   pub after-advance
       : (k : ℕ) (e : Lent) (rest : Text) (n : ℕ) → forecast-run k (begun input cells) ≡ going e rest n → None-orders (waits (cycle e))
 
--- ── Other waits come ────────────────────────────────────────────────────────
+-- ── What does come ──────────────────────────────────────────────────────────
 
--- An addition that is to write x1 waits for a division that reads it.
+-- The run of the same program on a machine of three units, before its first turn.
+abbrev pub three-begun : Text → Run
+three-begun input =
+    going
+    (play (overlap true)
+    (lent-of (new (pipeline-shape (forecast-shape .stages) none default-timing (unit-spec (bytes "EX") [] Alu 3 ∷ []) 256) 0) (replicate 51200 255)))
+    input 0
+
+-- Other waits come: an addition that is to write x1 waits for a division that reads it.
 abbrev pub Overwriting-waits : Type 0
 Overwriting-waits =
     waits-of (forecast-run 7 (begun (bytes "D 4 x1 - divide\nA 4 - x1 add") (replicate 51200 255)))
     ≡ trace-of WriteAfterRead READ WRITE (overwrites (bytes "add") (bytes "x1") (bytes "divide")) ∷ []
+
+-- With a third unit this one comes too: a load that is finished waits for an older one that still waits for its address.
+abbrev pub Third-unit-orders : Type 0
+Third-unit-orders =
+    waits-of (forecast-run 8 (three-begun (bytes "D 4 - x1 divide\nL 4 x1 - first\nL 4 - - second")))
+    ≡ trace-of FunctionalUnitBusy READ WRITE (memory-order (bytes "second") (bytes "first"))
+    ∷ trace-of ReadAfterWrite EXECUTE ISSUE (waits-for (bytes "first") (bytes "x1") (some (bytes "divide"))) ∷ []
