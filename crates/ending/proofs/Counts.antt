@@ -1,4 +1,4 @@
--- How many operations are in flight, the flags, and the counters of cycles and of retired operations, after each step of a cycle.
+-- How many operations are in flight, the flags, the rows, and the counters of cycles and of retired operations, after each step of a cycle.
 use Prim.Native.Nat.{ℕ, suc, _+_}
 use native.Mathlib.Omega.{arith}
 use mathlib.Core.Path.{_≡_, refl, _∙_, ap}
@@ -12,7 +12,7 @@ use Rattle.capability.specs.declared.PipelineHazardKind.{PipelineHazardKind}
 use Rattle.capability.specs.declared.PipelineHazardKind.the-variants.{BranchFlush, FunctionalUnitBusy, WriteAfterWrite}
 use Rattle.model.specs.Op.{Op, with-hazard}
 use Rattle.model.specs.Registers.{resolve}
-use Rattle.model.specs.State.{Stats, State, count-stalls, count-stall, engine, stall-all}
+use Rattle.model.specs.State.{Log, Stats, State, count-stalls, count-stall, engine, stall-all}
 use Rattle.model.specs.Traces.{Detail}
 use Rattle.model.specs.Units.{FunctionalUnit, begin, clear, clear-hazard, mark-hazard, occupy, read-one, tick, units, with-busy, without-waits}
 use Rattle.model.specs.Write.{Blocked, blocked-kind, mark-blocked, writing}
@@ -121,7 +121,7 @@ count-issue s = go (s .queue) refl
     go [] e = refl
     go (o ∷ rest) e = count-choose (s .marks .branch) (s .marks .system) o rest s e
 
--- ── Flags and counters ──────────────────────────────────────────────────────
+-- ── Flags, rows and counters ────────────────────────────────────────────────
 
 -- The two counters are as they were.
 pub record Same-counters (a b : Stats) : Type 0 where
@@ -133,24 +133,26 @@ unfolding engine
 counters-stalled [] a = record { cycles = refl; committed = refl }
 counters-stalled (h ∷ hs) a = let x = counters-stalled hs (count-stall h a) in record { cycles = x .cycles; committed = x .committed }
 
--- The flags and the two counters are as they were.
+-- The flags, the rows and the two counters are as they were.
 pub record Aside (s t : State) : Type 0 where
   pub front : t .front ≡ s .front
+  pub rows : t .log .rows ≡ s .log .rows
   pub counters : Same-counters (s .log .stats) (t .log .stats)
 
 pub aside-before : (s : State) → Aside s (before-issue none s)
 unfolding scoreboard issuing stall-all
-aside-before s = record { front = refl; counters = counters-stalled _ (s .log .stats) }
+aside-before s = record { front = refl; rows = refl; counters = counters-stalled _ (s .log .stats) }
 
 aside-blocked : (x : PipelineHazardKind) (d : Detail) (s : State) → Aside s (block-issue x d s)
 unfolding issuing stall-all
-aside-blocked x d s = record { front = refl; counters = counters-stalled (x ∷ []) (s .log .stats) }
+aside-blocked x d s = record { front = refl; rows = refl; counters = counters-stalled (x ∷ []) (s .log .stats) }
 
-aside-same : (s t : State) → t .front ≡ s .front → t .log .stats ≡ s .log .stats → Aside s t
+aside-same : (s t : State) → t .front ≡ s .front → t .log ≡ s .log → Aside s t
 aside-same s t f l =
     record {
       front = f;
-      counters = record { cycles = ap (λ (a : Stats). a .cycles) l; committed = ap (λ (a : Stats). a .committed) l };
+      rows = ap (λ (a : Log). a .rows) l;
+      counters = record { cycles = ap (λ (a : Log). a .stats .cycles) l; committed = ap (λ (a : Log). a .stats .committed) l };
     }
 
 aside-to : (o : Op) (rest : List Op) (r w : List ℕ) (t f : Option ℕ) (s : State) → Aside s (issue-to o rest r w t f s)
@@ -168,7 +170,7 @@ aside-choose false false o rest s =
     let a =
     aside-to o rest (x .read) (x .written) (taken (learn (x .names) s .producer) (x .written))
     (free-unit (s .machine .specs) (s .units) (o .core .decoded .class)) (learn (x .names) s) in
-    record { front = a .front; counters = a .counters }
+    record { front = a .front; rows = a .rows; counters = a .counters }
 
 pub aside-issue : (s : State) → Aside s (issue s)
 unfolding issuing

@@ -1,20 +1,21 @@
--- A cycle in which every offer is retired: what stays, what is counted, and that the work left falls while anything is in flight.
-use Prim.Native.Nat.{ℕ, _+_, _≤_}
+-- A cycle in which every offer is retired: what stays, and what is counted.
+use Prim.Native.Nat.{ℕ, _+_, _≤_, _<_}
 use native.Mathlib.Omega.{arith}
 use mathlib.Core.Path.{_≡_, refl, _∙_, ap}
 use mathlib.Core.Bool.{Bool, true, false, cond}
 use mathlib.Core.Option.{Option, none, some}
 use mathlib.Core.List.{List, map}
-use Rattle.laws.specs.Lists.{nth}
+use Rattle.laws.specs.Lists.{modify, nth}
 use Rattle.laws.specs.Numbers.{max64}
 use Rattle.laws.proofs.Maps.{length-of}
 use Rattle.capability.specs.declared.Phase.{Phase}
 use Rattle.capability.specs.declared.Phase.the-variants.{Write}
 use Rattle.model.specs.Op.{with-hazard}
 use Rattle.model.specs.State.{Front, Log, State, count-cycle, stall-all, with-turn}
-use Rattle.model.specs.Units.{FunctionalUnit, clear-hazard, units}
+use Rattle.model.specs.Units.{FunctionalUnit, clear, clear-hazard, units, without-waits}
 use Rattle.model.specs.Write.{mark-blocked, retire, start-cycle, take-out, writable-unit, writing}
-use Rattle.model.specs.Issue.{complete-offer, issue, issuing}
+use Rattle.model.specs.Issue.{complete-offer, issue, issuing, timeline-cells}
+use Rattle.model.specs.Timeline.{push-all}
 use Rattle.model.specs.Scoreboard.{advance, after-issue, before-issue, close-cycle, closed, may-fetch, scoreboard, stops}
 use Rattle.invariant.specs.Invariant.{On-offer}
 use Rattle.invariant.proofs.Lists.{nth-image}
@@ -22,7 +23,8 @@ use Rattle.invariant.proofs.Entries.{marked-same}
 use Rattle.invariant.proofs.Start.{found-ready}
 use Rattle.invariant.proofs.Steps.{Step, step-retire}
 use Rattle.ending.proofs.Totals.{total, total-map-same}
-use Rattle.ending.proofs.Work.{op-work, unit-work, work, work-cleared, work-marked, work-out}
+use Rattle.ending.proofs.Work.{op-work}
+use Rattle.ending.proofs.Share.{op-share, share, share-cleared, share-marked, share-out, share-out-less, unit-share}
 use Rattle.ending.proofs.Counts.{Same-counters, aside-before, aside-issue, count-before, count-cleared, count-completed, count-issue, count-marked, count-out, counters-stalled, in-flight-count, one-busy}
 
 -- ── The cycle ───────────────────────────────────────────────────────────────
@@ -65,18 +67,32 @@ module _ (s : State) where
       part : FunctionalUnit → Bool × Phase
       part u = (u .busy, u .phase)
 
-  pub work-started : work (start-cycle s) + one-if found ≤ work s
-  unfolding writing work op-work
-  work-started =
-      let q : total op-work (map (with-hazard none) (s .queue)) ≡ total op-work (s .queue) = queue-same in
-      omega (arith, q, go found refl, work-marked (writable-unit cleared .turned-away) cleared, work-cleared (s .units))
-    where
-      queue-same : total op-work (map (with-hazard none) (s .queue)) ≡ total op-work (s .queue)
-      queue-same = total-map-same op-work (with-hazard none) (λ o. refl) (s .queue)
+  started-share
+      : (p : ℕ → Bool) → share p (start-cycle s) ≡ total (op-share p) (s .queue) + total (unit-share p) (take-out found marked)
+  unfolding writing share op-work op-share
+  started-share p =
+      ap (λ (n : ℕ). n + total (unit-share p) (take-out found marked))
+      (total-map-same (op-share p) (with-hazard none) (λ o. refl) (s .queue))
 
-      go : (f : Option ℕ) → found ≡ f → total unit-work (take-out f marked) + one-if f ≤ total unit-work marked
-      go none e = omega arith
-      go (some i) e = let w = still-finished i e in omega (arith, work-out marked i (w .0) (w .1) (w .2) (w .3))
+  marked-share : (p : ℕ → Bool) → total (unit-share p) marked ≡ total (unit-share p) (s .units)
+  marked-share p = share-marked p (writable-unit cleared .turned-away) cleared ∙ share-cleared p (s .units)
+
+  pub share-started : (p : ℕ → Bool) → share p (start-cycle s) ≤ share p s
+  unfolding share writing
+  share-started p = omega (arith, started-share p, marked-share p, go found)
+    where
+      go : (f : Option ℕ) → total (unit-share p) (take-out f marked) ≤ total (unit-share p) marked
+      go none = omega arith
+      go (some i) = share-out p marked i
+
+  -- The unit that is offered is one of those counted.
+  pub share-started-less
+      : (p : ℕ → Bool) (i : ℕ) (u : FunctionalUnit) → found ≡ some i → nth marked i ≡ some u → u .busy ≡ true → u .phase ≡ Write
+      → p (u .op .core .seq) ≡ true → share p (start-cycle s) < share p s
+  unfolding share writing
+  share-started-less p i u f e b w t =
+      let x = ap (λ (o : Option ℕ). total (unit-share p) (take-out o marked)) f in
+      omega (arith, started-share p, marked-share p, x, share-out-less p marked i u e b w t)
 
   pub count-started : in-flight-count (start-cycle s) + one-if found ≡ in-flight-count s
   unfolding writing in-flight-count
@@ -93,6 +109,10 @@ module _ (s : State) where
       go none e = omega arith
       go (some i) e = let w = still-finished i e in omega (arith, count-out marked i (w .0) (w .1) (w .2))
 
+  pub rows-started : start-cycle s .log .rows ≡ s .log .rows
+  unfolding writing stall-all
+  rows-started = refl
+
   pub counters-started : Same-counters (count-cycle (s .log .stats)) (start-cycle s .log .stats)
   unfolding writing stall-all
   counters-started = counters-stalled _ (count-cycle (s .log .stats))
@@ -106,12 +126,13 @@ pub record Settled (t u : State) : Type 0 where
   pub queue : u .queue ≡ t .queue
   pub front : u .front ≡ t .front
   pub writing : u .offer .writing ≡ t .offer .writing
+  pub rows : u .log .rows ≡ t .log .rows
   pub cycles : u .log .stats .cycles ≡ t .log .stats .cycles
 
 pub settled-same : (w : Option ℕ) (t : State) → Settled t (settled w t)
 unfolding settled writing
-settled-same none t = record { machine = refl; units = refl; queue = refl; front = refl; writing = refl; cycles = refl }
-settled-same (some i) t = record { machine = refl; units = refl; queue = refl; front = refl; writing = refl; cycles = refl }
+settled-same none t = record { machine = refl; units = refl; queue = refl; front = refl; writing = refl; rows = refl; cycles = refl }
+settled-same (some i) t = record { machine = refl; units = refl; queue = refl; front = refl; writing = refl; rows = refl; cycles = refl }
 
 pub settled-committed
     : (w : Option ℕ) (t : State) → t .log .stats .committed + one-if w ≤ max64
@@ -172,6 +193,10 @@ pub closed-units : (s : State) → s .offer .writing ≡ none → closed s .unit
 unfolding scoreboard issuing
 closed-units s e = ap (λ (w : Option ℕ). close-cycle (complete-offer w s) .units) e
 
+pub closed-units-at : (s : State) (i : ℕ) → s .offer .writing ≡ some i → closed s .units ≡ map (without-waits i) (modify i clear (s .units))
+unfolding scoreboard issuing
+closed-units-at s i e = ap (λ (w : Option ℕ). close-cycle (complete-offer w s) .units) e
+
 count-closed
     : (s : State) → ((i : ℕ) → s .offer .writing ≡ some i → On-offer (s .units) i) → in-flight-count (closed s) ≡ in-flight-count s
 unfolding scoreboard issuing in-flight-count
@@ -196,6 +221,8 @@ pub record Advanced (t u : State) : Type 0 where
   pub faulted : u .front .faulted ≡ t .front .faulted
   pub outside : u .front .in-cycle ≡ false
   pub invited : u .front .invited ≡ may-fetch u
+  -- Each operation in flight has a cell.
+  pub rows : u .log .rows ≡ push-all (timeline-cells u) (t .log .rows)
   pub cycles : u .log .stats .cycles ≡ t .log .stats .cycles
   pub committed : u .log .stats .committed ≡ t .log .stats .committed
 
@@ -211,6 +238,9 @@ advanced-facts t =
       faulted = ap (λ (x : Front). x .faulted) f;
       outside = ap (λ (x : Front). x .in-cycle) f;
       invited = refl;
+      rows =
+          ap (push-all (timeline-cells (issue b)))
+          (aside-issue b .rows ∙ aside-before (closed t) .rows ∙ ap (λ (l : Log). l .rows) (closed-log t));
       cycles =
           aside-issue b .counters .cycles ∙ aside-before (closed t) .counters .cycles ∙ ap (λ (l : Log). l .stats .cycles) (closed-log t);
       committed =
@@ -222,9 +252,9 @@ count-after : (s : State) → in-flight-count (after-issue s) ≡ in-flight-coun
 unfolding scoreboard issuing in-flight-count
 count-after s = refl
 
-pub work-after : (s : State) → work (after-issue s) ≡ work s
-unfolding scoreboard issuing work
-work-after s = refl
+pub share-after : (p : ℕ → Bool) (s : State) → share p (after-issue s) ≡ share p s
+unfolding scoreboard issuing share
+share-after p s = refl
 
 pub count-advanced
     : (t : State) → ((i : ℕ) → t .offer .writing ≡ some i → On-offer (t .units) i) → in-flight-count (advanced t) ≡ in-flight-count t

@@ -2,25 +2,27 @@
 use Prim.Native.Nat.{ℕ, suc, _+_, _≤_, _<_}
 use native.Mathlib.Omega.{arith}
 use mathlib.Core.Path.{_≡_, sym, _∙_, ap, ap₂, subst}
-use mathlib.Core.Bool.{false, _||_}
+use mathlib.Core.Bool.{Bool, false, _||_}
 use mathlib.Core.Option.{none, some}
-use mathlib.Core.List.{List}
+use mathlib.Core.List.{List, map}
 use lib.ListN.{length}
 use Rattle.laws.specs.Numbers.{max64}
 use Rattle.model.specs.Op.{Op}
+use Rattle.model.specs.Issue.{timeline-cells}
+use Rattle.model.specs.Timeline.{push-all}
 use Rattle.model.specs.State.{Front, State}
 use Rattle.model.specs.Units.{FunctionalUnit}
 use Rattle.model.specs.Write.{start-cycle, writing}
-use Rattle.model.specs.Scoreboard.{idle, may-fetch, stops}
-use Rattle.invariant.specs.Invariant.{Invariant, On-offer}
+use Rattle.model.specs.Scoreboard.{may-fetch, stops}
+use Rattle.invariant.specs.Invariant.{Invariant, On-offer, unit-place}
 use Rattle.invariant.proofs.Start.{flight-start}
 use Rattle.invariant.proofs.Steps.{Step, step-advance, step-start}
 use Rattle.invariant.proofs.Invariant.{kept-of}
 use Rattle.ending.proofs.Totals.{total}
-use Rattle.ending.proofs.Work.{work}
+use Rattle.ending.proofs.Share.{share}
 use Rattle.ending.proofs.Counts.{in-flight-count, one-busy}
-use Rattle.ending.proofs.Cycle.{advance-runs, advanced, advanced-facts, count-advanced, count-started, counters-started, cycled, found, one-if, settled, settled-committed, settled-same, settled-step}
-use Rattle.ending.proofs.Progress.{work-falls, work-most}
+use Rattle.ending.proofs.Cycle.{advance-runs, advanced, advanced-facts, count-advanced, count-started, counters-started, cycled, found, one-if, rows-started, settled, settled-committed, settled-same, settled-step}
+use Rattle.ending.proofs.Falls.{Down, share-falls, share-most}
 
 pub record Cycled (s u : State) : Type 0 where
   pub machine : u .machine ≡ s .machine
@@ -31,13 +33,17 @@ pub record Cycled (s u : State) : Type 0 where
   pub faulted : u .front .faulted ≡ s .front .faulted
   pub outside : u .front .in-cycle ≡ false
   pub invited : u .front .invited ≡ may-fetch u
+  pub places : map unit-place (u .units) ≡ map unit-place (s .units)
+  -- Each operation in flight has a cell.
+  pub rows : u .log .rows ≡ push-all (timeline-cells u) (s .log .rows)
   pub cycles : u .log .stats .cycles ≤ suc (s .log .stats .cycles)
   -- What is retired is no longer in flight.
   pub account
       : s .log .stats .committed + in-flight-count s ≤ max64
       → u .log .stats .committed + in-flight-count u ≡ s .log .stats .committed + in-flight-count s
-  pub work-most : work u ≤ work s
-  pub work-less : idle s ≡ false → work u < work s
+  -- The work of those counted falls while one of them is in flight.
+  pub share-most : (p : ℕ → Bool) → Down p → share p u ≤ share p s
+  pub share-less : (p : ℕ → Bool) → Down p → 0 < share p s → share p u < share p s
 
 module _ (s : State) (h : Invariant s) (out : s .front .in-cycle ≡ false) (running : stops s ≡ false) where
   abbrev middle : State
@@ -76,9 +82,12 @@ module _ (s : State) (h : Invariant s) (out : s .front .in-cycle ≡ false) (run
       let c = counters-started s .committed in
       omega (arith, c, settled-committed (found s) (start-cycle s) (omega (arith, c, l)))
 
-  pub cycled-facts : Cycled s (cycled s)
+  pub cycled-is : cycled s ≡ advanced middle
   unfolding cycled
-  cycled-facts = subst (Cycled s) (sym (advance-runs middle middle-running)) facts
+  cycled-is = advance-runs middle middle-running
+
+  pub cycled-facts : Cycled s (cycled s)
+  cycled-facts = subst (Cycled s) (sym cycled-is) facts
     where
       a : Step middle (advanced middle)
       a = subst (Step middle) (advance-runs middle middle-running) (step-advance none middle)
@@ -99,11 +108,13 @@ module _ (s : State) (h : Invariant s) (out : s .front .in-cycle ≡ false) (run
             faulted = f .faulted ∙ middle-front .2;
             outside = f .outside;
             invited = f .invited;
+            places = a .places ∙ b .places ∙ c .places;
+            rows = f .rows ∙ ap (push-all (timeline-cells (advanced middle))) (g .rows ∙ rows-started s);
             cycles = omega (arith, f .cycles, g .cycles, n .cycles);
             account = λ l.
                 let i = count-advanced middle offer-there in
                 let j = count-started s in
                 omega (arith, i, j, middle-count, f .committed, retired (omega (arith, j, l)));
-            work-most = omega (arith, work-most s h out);
-            work-less = work-falls s h out;
+            share-most = λ p d. share-most p d s h out;
+            share-less = λ p d. share-falls p d s h out;
           }

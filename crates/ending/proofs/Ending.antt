@@ -19,7 +19,8 @@ use Rattle.model.specs.Forecast.{Lent, Run, excess, finished, forecast-made, fo
 use Rattle.invariant.proofs.Invariant.{invariant-kept, invariant-made}
 use Rattle.ending.specs.Ending.{Bound-met, Ending, Outcome, begun, begun-made, is-over, line-count, next-turn}
 use Rattle.ending.proofs.Totals.{total}
-use Rattle.ending.proofs.Work.{op-work, unit-work, work}
+use Rattle.ending.proofs.Work.{op-work, unit-work}
+use Rattle.ending.proofs.Share.{op-share, share, unit-share}
 use Rattle.ending.proofs.Counts.{in-flight-count, one-busy}
 use Rattle.rows.proofs.Bytes.{write-all-length}
 use Rattle.ending.proofs.Turn.{Between, Turned, left, lines-most, on, over, turned}
@@ -114,7 +115,7 @@ module _ (input : Text) (cells : List ℕ) (p : make-refusal forecast-shape (len
       ∙ write-all-length (clear-writes 256) cells
 
   first-between : Between input first-engine input 0
-  unfolding everything left work in-flight-count op-work unit-work one-busy total
+  unfolding everything left share in-flight-count op-share unit-share op-work unit-work one-busy total
   first-between =
       record {
         invariant =
@@ -131,7 +132,7 @@ module _ (input : Text) (cells : List ℕ) (p : make-refusal forecast-shape (len
       }
 
   first-left : left first-engine input ≡ 25 * line-count input
-  unfolding everything left work op-work unit-work total
+  unfolding everything left share op-share unit-share op-work unit-work total
   first-left = omega arith
 
 pub begun-turned : (input : Text) (cells : List ℕ) → Turned input (suc (25 * line-count input)) (begun input cells)

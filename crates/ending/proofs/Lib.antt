@@ -1,11 +1,13 @@
 pub mod Totals
 pub mod Oldest
-pub mod Offered
 pub mod Work
+pub mod Share
 pub mod Counts
 pub mod Cycle
 pub mod Progress
+pub mod Falls
 pub mod Cycled
 pub mod Played
 pub mod Turn
 pub mod Ending
+pub mod Along

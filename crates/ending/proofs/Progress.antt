@@ -1,51 +1,50 @@
--- While anything is in flight, each cycle lessens the work that is left.
-use Prim.Native.Nat.{ℕ, _+_, _≤_, _<_}
+-- The engine when it is to issue; with no unit busy nothing keeps the first of the queue from issuing.
+use Prim.Native.Nat.{ℕ, _≤_, _<_}
 use native.Mathlib.Omega.{arith}
-use mathlib.Core.Path.{_≡_, refl, sym, _∙_, ap, ap₂, subst}
+use mathlib.Core.Path.{_≡_, refl, sym, _∙_, ap, ap₂}
 use mathlib.Core.Bool.{Bool, true, false, not, _&&_, _||_, true≢false}
 use mathlib.Core.Option.{Option, none, some}
 use mathlib.Core.List.{List, [], _∷_, map}
-use mathlib.Core.Logic.{_⊎_, inl, inr}
+use lib.Dec.{eqb}
 use lib.ListN.{length}
 use borrow.Author.Tests.{eq-eqb}
-use Rattle.laws.specs.Lists.{any, find-at, is-empty, nth}
-use Rattle.laws.specs.Optional.{get-or}
+use Rattle.laws.specs.Lists.{any, find-at, keep, lists, modify, nth}
+use Rattle.laws.specs.Optional.{get-or, omap}
 use Rattle.laws.proofs.Choices.{none-some}
+use Rattle.laws.proofs.Maps.{nth-map}
 use Rattle.capability.specs.declared.Phase.{Phase}
 use Rattle.capability.specs.declared.PipelineInstructionClass.{PipelineInstructionClass}
 use Rattle.model.specs.Config.{UnitSpec, config, handles, spec-index, Machine}
-use Rattle.model.specs.Op.{Op, with-hazard}
+use Rattle.model.specs.Op.{with-hazard}
 use Rattle.model.specs.Registers.{producer-of}
 use Rattle.model.specs.State.{State}
-use Rattle.model.specs.Units.{FunctionalUnit, begin, clear-hazard, is-busy, mark-hazard, read-one, tick, units}
-use Rattle.model.specs.Write.{Blocked, blocked-kind, mark-blocked, start-cycle, take-out, writable-unit, write-blocked, writing}
-use Rattle.model.specs.Issue.{free-unit, is-free, issue, issuing}
-use Rattle.model.specs.Scoreboard.{before-issue, closed, idle, scoreboard}
+use Rattle.model.specs.Units.{FunctionalUnit, begin, clear, clear-hazard, is-busy, mark-hazard, read-one, tick, units, with-busy, without-waits}
+use Rattle.model.specs.Write.{Blocked, blocked-kind, mark-blocked, start-cycle, take-out, writable-unit, writing}
+use Rattle.model.specs.Issue.{free-unit, is-free, issuing}
+use Rattle.model.specs.Scoreboard.{before-issue, closed, scoreboard}
 use Rattle.runs.proofs.Tracks.{all-map, all-modify}
 use Rattle.invariant.specs.Invariant.{Invariant, front-number, unit-place}
-use Rattle.invariant.proofs.Lists.{all-at, find-hit, find-miss, nth-image, nth-short}
-use Rattle.invariant.proofs.Consistent.{Consistent, Entry, Marked}
-use Rattle.invariant.proofs.Entries.{Flight, Unoffered, consistent-as, entry-at, entry-map, in-flight, marked-same}
-use Rattle.invariant.proofs.Start.{flight-start, no-cycle}
+use Rattle.invariant.proofs.Lists.{all-at, find-hit, find-miss, map-same, nth-image, nth-other, nth-short}
+use Rattle.invariant.proofs.Consistent.{Entry, Marked}
+use Rattle.invariant.proofs.Entries.{Flight, Unoffered, entry-at, in-flight, marked-same}
+use Rattle.invariant.proofs.Start.{flight-start}
 use Rattle.invariant.proofs.Complete.{unoffered-before, unoffered-closed}
 use Rattle.invariant.proofs.Flight.{idle-empty, no-claim}
 use Rattle.invariant.proofs.Steps.{step-before, step-closed, step-start}
 use Rattle.invariant.proofs.Invariant.{kept-of}
-use Rattle.ending.proofs.Oldest.{Oldest, Quiet, oldest-unblocked, oldest-unwaiting, quiet-or-oldest}
-use Rattle.ending.proofs.Offered.{unblocked-offered}
-use Rattle.ending.proofs.Totals.{total}
-use Rattle.ending.proofs.Work.{Clear, op-work, unit-work, work, work-before, work-before-less, work-closed, work-issue, work-issue-less}
-use Rattle.ending.proofs.Cycle.{advanced, cleared, closed-queue, closed-units, found, marked, one-if, settled, settled-same, settled-step, work-after, work-started}
+use Rattle.ending.proofs.Oldest.{Quiet}
+use Rattle.ending.proofs.Share.{Clear}
+use Rattle.ending.proofs.Cycle.{cleared, closed-units, closed-units-at, found, marked, settled, settled-same, settled-step}
 
 -- ── No unit is busy ─────────────────────────────────────────────────────────
 
-quiet-marked : (bs : List (ℕ × Blocked)) (us : List FunctionalUnit) → Quiet us → Quiet (mark-blocked bs us)
+pub quiet-marked : (bs : List (ℕ × Blocked)) (us : List FunctionalUnit) → Quiet us → Quiet (mark-blocked bs us)
 unfolding writing units
 quiet-marked [] us h = h
 quiet-marked (b ∷ bs) us h =
     quiet-marked bs _ (all-modify (λ (u : FunctionalUnit). u .busy ≡ false) (b .0) (mark-hazard (blocked-kind (b .1))) (λ u e. e) us h)
 
-quiet-before : (s : State) → Quiet (s .units) → Quiet (before-issue none s .units)
+pub quiet-before : (s : State) → Quiet (s .units) → Quiet (before-issue none s .units)
 unfolding scoreboard issuing units
 quiet-before s h =
     kept read-one (λ u e. e) (map begin (map tick (s .units)))
@@ -56,7 +55,7 @@ quiet-before s h =
         → Quiet us → Quiet (map f us)
     kept f r us q = all-map (λ (u : FunctionalUnit). u .busy ≡ false) (λ (u : FunctionalUnit). u .busy ≡ false) f r us q
 
-quiet-idle : (us : List FunctionalUnit) → Quiet (map clear-hazard us) → any is-busy us ≡ false
+pub quiet-idle : (us : List FunctionalUnit) → Quiet (map clear-hazard us) → any is-busy us ≡ false
 unfolding units any
 quiet-idle [] h = refl
 quiet-idle (u ∷ us) h = ap₂ _||_ (h .0) (quiet-idle us (h .1))
@@ -116,20 +115,20 @@ no-mark : (m : Bool) (flag : Entry → Bool) (c : ℕ → Option Entry) → Mark
 no-mark true flag c h n = let w = h .marked refl in none-some (w .1) (sym (n (w .0)) ∙ w .2)
 no-mark false flag c h n = refl
 
-queue-before : (s : State) → before-issue none s .queue ≡ s .queue
+pub queue-before : (s : State) → before-issue none s .queue ≡ s .queue
 unfolding scoreboard issuing
 queue-before s = refl
 
-queue-started : (s : State) → start-cycle s .queue ≡ map (with-hazard none) (s .queue)
+pub queue-started : (s : State) → start-cycle s .queue ≡ map (with-hazard none) (s .queue)
 unfolding writing
 queue-started s = refl
 
 -- What a start's marks leave of a unit.
-abbrev Part : Type 0
-Part = Bool × Phase × List (ℕ × ℕ)
+abbrev pub Part : Type 0
+Part = Bool × Phase × List (ℕ × ℕ) × ℕ
 
-abbrev part : FunctionalUnit → Part
-part u = (u .busy, u .phase, u .pending)
+abbrev pub part : FunctionalUnit → Part
+part u = (u .busy, u .phase, u .pending, u .op .core .seq)
 
 marked-part : (bs : List (ℕ × Blocked)) (us : List FunctionalUnit) → map part (mark-blocked bs us) ≡ map part us
 unfolding units
@@ -161,7 +160,7 @@ module _ (s : State) (h : Invariant s) (out : s .front .in-cycle ≡ false) wher
       ∙ settled-step (start-cycle s .offer .writing) (start-cycle s) .machine ∙ step-start s .machine
 
   -- With no unit busy nothing keeps the first of the queue from issuing.
-  clear-before : Quiet (before .units) → Clear before
+  pub clear-before : Quiet (before .units) → Clear before
   clear-before q =
       record {
         no-branch = no-mark (before .marks .branch) (λ e. e .redirects) (in-flight before) (unoffered .core .branch) empty;
@@ -175,98 +174,43 @@ module _ (s : State) (h : Invariant s) (out : s .front .in-cycle ≡ false) wher
       empty : (i : ℕ) → in-flight before i ≡ none
       empty i = ap (λ (w : Option ℕ). entry-at w i (nth (before .units) i)) (unoffered .no-offer) ∙ idle-empty i (before .units) q i
 
-  -- ── The work falls ──────────────────────────────────────────────────────────
-
-  rest-most : work (advanced middle) ≤ work before
-  rest-most = omega (arith, work-after (issue before), work-issue before)
-
-  middle-work : work middle ≡ work (start-cycle s)
-  unfolding work
-  middle-work =
-      let a = settled-same (start-cycle s .offer .writing) (start-cycle s) in
-      ap₂ (λ (q : List Op) (us : List FunctionalUnit). total op-work q + total unit-work us) (a .queue) (a .units)
-
-  pub work-most : work (advanced middle) + one-if (found s) ≤ work s
-  work-most =
-      omega (arith, rest-most, work-before (closed middle), work-closed middle, middle-work, work-started s)
-
   pub closed-marked : found s ≡ none → closed middle .units ≡ marked s
   unfolding writing
   closed-marked e =
       let a = settled-same (start-cycle s .offer .writing) (start-cycle s) in
       closed-units middle (a .writing ∙ e) ∙ a .units ∙ ap (λ (f : Option ℕ). take-out f (marked s)) e
 
-  pub cleared-consistent
-      : Consistent (λ j. entry-at none j (nth (cleared s) j)) (producer-of (s .producer)) (s .marks .branch) (s .marks .system)
-      (front-number (s .queue) (s .front .next-seq))
+  pub closed-found
+      : (i : ℕ) → found s ≡ some i
+      → closed middle .units ≡ map (without-waits i) (modify i clear (modify i (with-busy false) (marked s)))
+  unfolding writing
+  closed-found i e =
+      let a = settled-same (start-cycle s .offer .writing) (start-cycle s) in
+      closed-units-at middle i (a .writing ∙ e)
+      ∙ ap (λ (us : List FunctionalUnit). map (without-waits i) (modify i clear us)) (a .units ∙ ap (λ (f : Option ℕ). take-out f (marked s)) e)
+
+  -- Where a unit is not the one offered, it is as it was; one that waits for nothing still does.
+  pub stands : (i : ℕ) (u : FunctionalUnit) → nth (s .units) i ≡ some u → (v : FunctionalUnit) × (nth (marked s) i ≡ some v) × (part v ≡ part u)
   unfolding units
-  cleared-consistent =
-      consistent-as (in-flight s) (λ j. entry-at none j (nth (cleared s) j)) (producer-of (s .producer)) (producer-of (s .producer))
-      (s .marks .branch) (s .marks .system) (front-number (s .queue) (s .front .next-seq)) (front-number (s .queue) (s .front .next-seq))
-      (λ j.
-      entry-map clear-hazard (λ u. refl) (λ u. refl) none j (s .units)
-      ∙ sym (ap (λ (w : Option ℕ). entry-at w j (nth (s .units) j)) (no-cycle s flight out)))
-      (λ r. refl) refl (flight .core)
+  stands i u e =
+      nth-image part (marked s) (s .units) i u
+      (marked-part (writable-unit (cleared s) .turned-away) (cleared s) ∙ map-same part clear-hazard (λ x. refl) (s .units)) e
 
-  -- No offer, and a unit is busy: the oldest goes on.
-  oldest-goes-on : found s ≡ none → (i : ℕ) (u : FunctionalUnit) → Oldest (cleared s) i u → work (advanced middle) < work s
-  oldest-goes-on e i u o =
-      let w =
-      nth-image part (marked s) (cleared s) i u
-      (marked-part (writable-unit (cleared s) .turned-away) (cleared s)) (o .at) in
-      let v = w .0 in
-      let waits : v .pending ≡ [] = ap (λ (z : Part). z .2) (w .2) ∙ unwaiting in
-      let there : nth (closed middle .units) i ≡ some v
-      = ap (λ (us : List FunctionalUnit). nth us i) (closed-marked e) ∙ w .1 in
-      let less =
-      work-before-less (closed middle) i v there (ap (λ (z : Part). z .0) (w .2) ∙ o .busy) waits
-      (λ p.
-      unblocked-offered (cleared s) e i u (o .at) (o .busy) (sym (ap (λ (z : Part). z .1) (w .2)) ∙ p) unblocked) in
-      omega (arith, rest-most, less, work-closed middle, middle-work, work-started s)
+  pub closed-stands
+      : (i : ℕ) (v : FunctionalUnit) → nth (marked s) i ≡ some v → v .pending ≡ [] → (found s ≡ some i → ⊥)
+      → (w : FunctionalUnit) × (nth (closed middle .units) i ≡ some w) × (part w ≡ part v)
+  unfolding units lists
+  closed-stands i v e k n = go (found s) refl
     where
-      unwaiting : u .pending ≡ []
-      unwaiting =
-          oldest-unwaiting (cleared s) (producer-of (s .producer)) (s .marks .branch) (s .marks .system)
-          (front-number (s .queue) (s .front .next-seq)) cleared-consistent i u o
-
-      unblocked : write-blocked (cleared s) i ≡ none
-      unblocked =
-          oldest-unblocked (cleared s) (producer-of (s .producer)) (s .marks .branch) (s .marks .system)
-          (front-number (s .queue) (s .front .next-seq)) cleared-consistent i u o
-
-  -- No offer, and no unit is busy: the first of the queue issues.
-  first-issues
-      : found s ≡ none → Quiet (cleared s) → (o : Op) (rest : List Op) → s .queue ≡ o ∷ rest → work (advanced middle) < work s
-  first-issues e q o rest k =
-      let quiet = quiet-before (closed middle) (subst Quiet (sym (closed-marked e)) (quiet-marked (writable-unit (cleared s) .turned-away) (cleared s) q)) in
-      let less = work-issue-less before (with-hazard none o) (map (with-hazard none) rest) front-of-queue (clear-before quiet) in
-      omega (arith, work-after (issue before), less, work-before (closed middle), work-closed middle, middle-work, work-started s)
-    where
-      front-of-queue : before .queue ≡ with-hazard none o ∷ map (with-hazard none) rest
-      front-of-queue =
-          queue-before (closed middle) ∙ closed-queue middle
-          ∙ settled-same (start-cycle s .offer .writing) (start-cycle s) .queue
-          ∙ queue-started s
-          ∙ ap (map (with-hazard none)) k
-
-  pub work-falls : idle s ≡ false → work (advanced middle) < work s
-  unfolding scoreboard is-empty
-  work-falls n = go (found s) refl
-    where
-      queued : Quiet (cleared s) → (o : Op) × (rest : List Op) × (s .queue ≡ o ∷ rest)
-      queued q = at (s .queue) refl
-        where
-          at : (x : List Op) → s .queue ≡ x → (o : Op) × (rest : List Op) × (x ≡ o ∷ rest)
-          at (o ∷ rest) e = (o, rest, refl)
-          at [] e =
-              absurd
-              (true≢false
-              (sym (ap₂ (λ (x : List Op) (b : Bool). is-empty x && not b) e (quiet-idle (s .units) q)) ∙ n))
-
-      by : found s ≡ none → Quiet (cleared s) ⊎ ((i : ℕ) × (u : FunctionalUnit) × Oldest (cleared s) i u) → work (advanced middle) < work s
-      by e (inl q) = let w = queued q in first-issues e q (w .0) (w .1) (w .2)
-      by e (inr (i, u, o)) = oldest-goes-on e i u o
-
-      go : (f : Option ℕ) → found s ≡ f → work (advanced middle) < work s
-      go none e = by e (quiet-or-oldest (cleared s))
-      go (some i) e = let one : one-if (found s) ≡ 1 = ap one-if e in omega (arith, work-most, one)
+      go : (f : Option ℕ) → found s ≡ f → (w : FunctionalUnit) × (nth (closed middle .units) i ≡ some w) × (part w ≡ part v)
+      go none q = (v, ap (λ (us : List FunctionalUnit). nth us i) (closed-marked q) ∙ e, refl)
+      go (some j) q =
+          let other : i ≡ j → ⊥ = λ z. n (q ∙ ap (λ (x : ℕ). some x) (sym z)) in
+          let us = modify j (with-busy false) (marked s) in
+          let still : keep (λ (x : ℕ × ℕ). not (eqb (x .1) j)) (v .pending) ≡ v .pending
+          = ap (keep (λ (x : ℕ × ℕ). not (eqb (x .1) j))) k ∙ sym k in (
+            without-waits j v,
+            ap (λ (ws : List FunctionalUnit). nth ws i) (closed-found j q) ∙ nth-map (without-waits j) (modify j clear us) i
+                ∙ ap (omap (without-waits j)) (nth-other clear us j i other ∙ nth-other (with-busy false) (marked s) j i other ∙ e),
+            ap (λ (ws : List (ℕ × ℕ)). (v .busy, v .phase, ws, v .op .core .seq)) still,
+          )

@@ -30,8 +30,10 @@ use Rattle.invariant.proofs.Invariant.{invariant-kept}
 use Rattle.invariant.proofs.Taken.{fetch-taken, next-number}
 use Rattle.ending.specs.Ending.{Outcome, Used-up, line-count}
 use Rattle.ending.proofs.Totals.{total, total-append}
-use Rattle.ending.proofs.Work.{op-work, work}
+use Rattle.ending.proofs.Work.{op-work}
+use Rattle.ending.proofs.Share.{everyone, op-share, share, some-work, work}
 use Rattle.ending.proofs.Counts.{in-flight-count, one-busy}
+use Rattle.ending.proofs.Cycle.{cycled}
 use Rattle.ending.proofs.Cycled.{Cycled, cycled-facts}
 use Rattle.rows.proofs.Bytes.{write-all-length}
 use Rattle.ending.proofs.Played.{cycle-played, play-taken}
@@ -93,7 +95,7 @@ idle-count s e =
 
 -- ── Fetched ─────────────────────────────────────────────────────────────────
 
-latency-most : (c : PipelineInstructionClass) → latency default-timing c ≤ 20
+pub latency-most : (c : PipelineInstructionClass) → latency default-timing c ≤ 20
 unfolding config
 latency-most Alu = omega arith
 latency-most Multiply = omega arith
@@ -108,7 +110,7 @@ latency-most Unknown = omega arith
 
 work-fetched
     : (g : Given) (s : State) → s .machine ≡ machine-of forecast-shape → work (fetched g s) ≤ work s + 24
-unfolding scoreboard work op-work total machine-of forecast-shape
+unfolding scoreboard share op-share op-work total machine-of forecast-shape
 work-fetched g s e =
     let l : latency (s .machine .times) (g .decoded .class) ≡ latency default-timing (g .decoded .class)
     = ap (λ (m : Machine). latency (m .times) (g .decoded .class)) e in
@@ -118,11 +120,11 @@ count-fetched : (g : Given) (s : State) → in-flight-count (fetched g s) ≡ su
 unfolding scoreboard in-flight-count
 count-fetched g s = omega (arith, length-append (s .queue) (fetched-op g s ∷ []))
 
-depth-two : machine-of forecast-shape .depth ≡ 2
+pub depth-two : machine-of forecast-shape .depth ≡ 2
 unfolding everything
 depth-two = refl
 
-fetched-machine : (g : Given) (s : State) → fetched g s .machine ≡ s .machine
+pub fetched-machine : (g : Given) (s : State) → fetched g s .machine ≡ s .machine
 unfolding scoreboard
 fetched-machine g s = refl
 
@@ -218,12 +220,17 @@ module _ (input : Text) (e : Lent) (rest : Text) (n : ℕ) (h : Between input e 
       let l : e .engine .machine .history ≡ 256 = ap (λ (m : Machine). m .history) (h .machine) in
       le-ltb (length (e .cells)) (e .engine .machine .history * 200) (omega (arith, l, h .memory))
 
-  after-cycle : After input e (cycle e) rest n
+  pub cycle-is : cycle e .engine ≡ cycled (e .engine)
+  cycle-is = cycle-played (e .engine) (e .cells) (h .outside) memory-there .0
+
+  pub cycle-facts : Cycled (e .engine) (cycle e .engine)
+  cycle-facts = subst (Cycled (e .engine)) (sym cycle-is) (cycled-facts (e .engine) (h .invariant) (h .outside) (h .running))
+
+  pub after-cycle : After input e (cycle e) rest n
   unfolding stops
   after-cycle =
       let p = cycle-played (e .engine) (e .cells) (h .outside) memory-there in
-      let c : Cycled (e .engine) (cycle e .engine)
-      = subst (Cycled (e .engine)) (sym (p .0)) (cycled-facts (e .engine) (h .invariant) (h .outside) (h .running)) in
+      let c = cycle-facts in
       record {
         invariant = cycle-invariant e (h .invariant);
         machine = c .machine ∙ h .machine;
@@ -234,8 +241,8 @@ module _ (input : Text) (e : Lent) (rest : Text) (n : ℕ) (h : Between input e 
         number = c .number ∙ h .number;
         account = c .account (omega (arith, h .account, h .number, h .invariant .next-few)) ∙ h .account;
         cycles = c .cycles;
-        work-most = c .work-most;
-        work-less = c .work-less;
+        work-most = c .share-most everyone (λ a b l t. t);
+        work-less = λ i. c .share-less everyone (λ a b l t. t) (some-work (e .engine) i);
         invited = λ i. c .invited ∙ may-invite (cycle e .engine) (c .machine ∙ h .machine) (c .enabled ∙ h .enabled) (shorter i (c .shorter));
       }
     where

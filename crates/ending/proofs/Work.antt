@@ -1,31 +1,17 @@
--- The cycles that the operations in flight need if nothing holds them up: no step of a cycle adds to them.
+-- The cycles that an operation in flight needs if nothing holds it up: no step of its unit adds to them.
 use Prim.Native.Nat.{ℕ, zero, suc, _+_, _-_, _≤_, _<_}
 use native.Mathlib.Omega.{arith}
-use mathlib.Core.Path.{_≡_, refl, sym, _∙_, ap, ap₂, subst}
+use mathlib.Core.Path.{_≡_, refl, ap, ap₂}
 use mathlib.Core.Bool.{Bool, true, false, cond, _&&_, true≢false}
-use mathlib.Core.Option.{Option, none, some}
 use mathlib.Core.List.{List, [], _∷_, map}
 use lib.Dec.{eqb}
 use borrow.Author.Tests.{eqb-true}
-use Rattle.laws.specs.Lists.{is-empty, modify, nth}
-use Rattle.laws.proofs.Choices.{none-some}
+use Rattle.laws.specs.Lists.{is-empty}
 use Rattle.capability.specs.Numbers.{numbers, phase-number}
-use Rattle.capability.specs.declared.PipelineHazardKind.{PipelineHazardKind}
-use Rattle.capability.specs.declared.PipelineHazardKind.the-variants.{BranchFlush, FunctionalUnitBusy, WriteAfterWrite}
 use Rattle.capability.specs.declared.Phase.{Phase}
 use Rattle.capability.specs.declared.Phase.the-variants.{Execute, Read, Wait, Write}
-use Rattle.model.specs.Op.{Op, with-hazard}
-use Rattle.model.specs.Registers.{producer-of, resolve}
-use Rattle.model.specs.State.{State}
-use Rattle.laws.specs.Optional.{is-some}
-use Rattle.laws.specs.Texts.{Text}
-use Rattle.invariant.proofs.Tables.{pad-same}
-use Rattle.model.specs.Traces.{Detail}
-use Rattle.model.specs.Units.{FunctionalUnit, begin, clear, clear-hazard, mark-hazard, occupy, read-one, tick, units, with-busy, without-waits}
-use Rattle.model.specs.Write.{Blocked, blocked-kind, mark-blocked, writing}
-use Rattle.model.specs.Issue.{block-issue, complete-offer, free-unit, issue, issue-choose, issue-front, issue-to, issuing, learn, taken, waits-on}
-use Rattle.model.specs.Scoreboard.{before-issue, close-cycle, closed, scoreboard}
-use Rattle.ending.proofs.Totals.{total, total-map, total-map-less, total-map-same, total-modify, total-modify-at, total-modify-most, total-modify-same}
+use Rattle.model.specs.Op.{Op}
+use Rattle.model.specs.Units.{FunctionalUnit, begin, read-one, tick, units}
 
 -- ── One operation ───────────────────────────────────────────────────────────
 
@@ -42,9 +28,6 @@ unit-work u = cond (u .busy) (phase-work (u .phase) (u .op .core .cycles-left)) 
 -- Queued, it is still to issue.
 unfoldable pub op-work : Op → ℕ
 op-work o = 5 + (o .core .cycles-left - 1)
-
-unfoldable pub work : State → ℕ
-work s = total op-work (s .queue) + total unit-work (s .units)
 
 -- ── Execute, read and begin, of one unit ────────────────────────────────────
 
@@ -110,7 +93,7 @@ worked b p c e =
 abbrev pub three : FunctionalUnit → FunctionalUnit
 three u = read-one (begin (tick u))
 
-work-three : (u : FunctionalUnit) → unit-work (three u) ≤ unit-work u
+pub work-three : (u : FunctionalUnit) → unit-work (three u) ≤ unit-work u
 work-three u = omega (arith, work-read (begin (tick u)), work-begin (tick u), work-tick u)
 
 -- A busy unit that is not finished, and waits for nothing, needs one cycle less.
@@ -152,148 +135,6 @@ work-slow u = go (u .busy) (u .phase) (u .op .core .cycles-left) (is-empty (u .p
     go true Execute c e = run c (eqb c 0) e refl
     go true Write c e = omega arith
 
--- ── The units ───────────────────────────────────────────────────────────────
-
-abbrev units-work : List FunctionalUnit → ℕ
-units-work us = total unit-work us
-
-pub work-cleared : (us : List FunctionalUnit) → units-work (map clear-hazard us) ≡ units-work us
-unfolding units unit-work
-work-cleared us = total-map-same unit-work clear-hazard (λ u. refl) us
-
-pub work-marked : (bs : List (ℕ × Blocked)) (us : List FunctionalUnit) → units-work (mark-blocked bs us) ≡ units-work us
-unfolding units unit-work writing
-work-marked [] us = refl
-work-marked (b ∷ bs) us =
-    work-marked bs (modify (b .0) (mark-hazard (blocked-kind (b .1))) us)
-    ∙ total-modify-same unit-work (mark-hazard (blocked-kind (b .1))) (λ u. refl) (b .0) us
-
--- Taken out, a finished unit needs nothing more.
-pub work-out
-    : (us : List FunctionalUnit) (i : ℕ) (u : FunctionalUnit) → nth us i ≡ some u → u .busy ≡ true → u .phase ≡ Write
-    → units-work (modify i (with-busy false) us) < units-work us
-unfolding unit-work phase-work
-work-out us i u e b p =
-    let x : unit-work u ≡ 1 = ap₂ (λ (t : Bool) (q : Phase). cond t (phase-work q (u .op .core .cycles-left)) 0) b p in
-    omega (arith, x, total-modify-at unit-work (with-busy false) i us u e)
-
 pub map-three : (us : List FunctionalUnit) → map read-one (map begin (map tick us)) ≡ map three us
 map-three [] = refl
 map-three (u ∷ us) = ap (λ (l : List FunctionalUnit). three u ∷ l) (map-three us)
-
--- ── The steps of an advance ─────────────────────────────────────────────────
-
-pub work-closed : (s : State) → work (closed s) ≤ work s
-unfolding scoreboard issuing work units unit-work
-work-closed s = go (s .offer .writing)
-  where
-    cleared : (u : FunctionalUnit) → unit-work (clear u) ≤ unit-work u
-    cleared u = omega arith
-
-    go : (w : Option ℕ) → work (close-cycle (complete-offer w s)) ≤ work s
-    go none = omega arith
-    go (some i) =
-        omega (
-          arith,
-          total-map-same unit-work (without-waits i) (λ u. refl) (modify i clear (s .units)),
-          total-modify unit-work clear cleared i (s .units),
-        )
-
-pub work-before : (s : State) → work (before-issue none s) ≤ work s
-unfolding scoreboard issuing work
-work-before s =
-    omega (arith, ap units-work (map-three (s .units)), total-map unit-work three work-three (s .units))
-
-pub work-before-less
-    : (s : State) (i : ℕ) (u : FunctionalUnit) → nth (s .units) i ≡ some u → u .busy ≡ true → u .pending ≡ [] → (u .phase ≡ Write → ⊥)
-    → work (before-issue none s) < work s
-unfolding scoreboard issuing work
-work-before-less s i u e b w n =
-    omega (
-      arith,
-      ap units-work (map-three (s .units)),
-      total-map-less unit-work three work-three (s .units) i u e (work-less u b w n),
-    )
-
-work-blocked : (x : PipelineHazardKind) (d : Detail) (s : State) → work (block-issue x d s) ≤ work s
-unfolding issuing work op-work
-work-blocked x d s = omega (arith, total-modify-same op-work (with-hazard (some x)) (λ o. refl) 0 (s .queue))
-
--- An operation that issues needs one cycle less.
-work-placed
-    : (o : Op) (rest : List Op) (r w : List ℕ) (i : ℕ) (s : State) → s .queue ≡ o ∷ rest
-    → work (issue-to o rest r w none (some i) s) < work s
-unfolding issuing work units unit-work phase-work op-work total
-work-placed o rest r w i s q =
-    let x : total op-work (s .queue) ≡ op-work o + total op-work rest = ap (total op-work) q in
-    omega (
-      arith,
-      x,
-      total-modify-most unit-work (occupy o r w (waits-on (s .producer) r)) (4 + (o .core .cycles-left - 1)) (λ u. omega arith) i (s .units),
-    )
-
-work-to
-    : (o : Op) (rest : List Op) (r w : List ℕ) (t f : Option ℕ) (s : State) → s .queue ≡ o ∷ rest
-    → work (issue-to o rest r w t f s) ≤ work s
-unfolding issuing
-work-to o rest r w (some x) f s q = work-blocked WriteAfterWrite _ s
-work-to o rest r w none none s q = work-blocked FunctionalUnitBusy _ s
-work-to o rest r w none (some i) s q = omega (arith, work-placed o rest r w i s q)
-
-work-learned : (ns : List Text) (s : State) → work (learn ns s) ≡ work s
-unfolding issuing work
-work-learned ns s = refl
-
-work-choose
-    : (b y : Bool) (o : Op) (rest : List Op) (s : State) → s .queue ≡ o ∷ rest → work (issue-choose b y o rest s) ≤ work s
-unfolding issuing
-work-choose true y o rest s q = work-blocked BranchFlush _ s
-work-choose false true o rest s q = work-blocked FunctionalUnitBusy _ s
-work-choose false false o rest s q =
-    let x = resolve (s .names) (o .info) in
-    let a =
-    work-to o rest (x .read) (x .written) (taken (learn (x .names) s .producer) (x .written))
-    (free-unit (s .machine .specs) (s .units) (o .core .decoded .class)) (learn (x .names) s) q in
-    omega (arith, a, work-learned (x .names) s)
-
-pub work-issue : (s : State) → work (issue s) ≤ work s
-unfolding issuing
-work-issue s = go (s .queue) refl
-  where
-    go : (q : List Op) → s .queue ≡ q → work (issue-front q s) ≤ work s
-    go [] e = omega arith
-    go (o ∷ rest) e = work-choose (s .marks .branch) (s .marks .system) o rest s e
-
--- The first of the queue issues where there is no mark, none of its destinations is claimed, and a unit of its kind is free.
-pub record Clear (s : State) : Type 0 where
-  pub no-branch : s .marks .branch ≡ false
-  pub no-system : s .marks .system ≡ false
-  pub unclaimed : (r : ℕ) → producer-of (s .producer) r ≡ none
-  pub free : (o : Op) → (i : ℕ) × (free-unit (s .machine .specs) (s .units) (o .core .decoded .class) ≡ some i)
-
-none-taken : (ps : List (Option ℕ)) → ((r : ℕ) → producer-of ps r ≡ none) → (ws : List ℕ) → taken ps ws ≡ none
-unfolding issuing
-none-taken ps h [] = refl
-none-taken ps h (r ∷ rs) = ap (λ (x : Option ℕ). cond (is-some x) (some r) (taken ps rs)) (h r) ∙ none-taken ps h rs
-
-work-to-less
-    : (o : Op) (rest : List Op) (r w : List ℕ) (t f : Option ℕ) (s : State) → s .queue ≡ o ∷ rest → t ≡ none → (i : ℕ) → f ≡ some i
-    → work (issue-to o rest r w t f s) < work s
-work-to-less o rest r w (some x) f s q e i g = none-some x (sym e)
-work-to-less o rest r w none none s q e i g = none-some i g
-work-to-less o rest r w none (some j) s q e i g = work-placed o rest r w j s q
-
-pub work-issue-less : (s : State) (o : Op) (rest : List Op) → s .queue ≡ o ∷ rest → Clear s → work (issue s) < work s
-unfolding issuing work
-work-issue-less s o rest q h =
-    subst (λ (x : List Op). work (issue-front x s) < work s) (sym q)
-    (subst (λ (b : Bool). work (issue-choose b (s .marks .system) o rest s) < work s) (sym (h .no-branch))
-    (subst (λ (y : Bool). work (issue-choose false y o rest s) < work s) (sym (h .no-system)) placed))
-  where
-    placed : work (issue-choose false false o rest s) < work s
-    placed =
-        let x = resolve (s .names) (o .info) in
-        let f = h .free o in
-        work-to-less o rest (x .read) (x .written) (taken (learn (x .names) s .producer) (x .written))
-        (free-unit (s .machine .specs) (s .units) (o .core .decoded .class)) (learn (x .names) s) q
-        (none-taken (learn (x .names) s .producer) (λ r. pad-same (s .producer) (x .names) r ∙ h .unclaimed r) (x .written)) (f .0) (f .1)

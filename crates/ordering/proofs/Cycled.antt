@@ -1,13 +1,14 @@
 -- A cycle in which every offer is retired keeps loads and stores in order, and lists no wait for memory order.
-use Prim.Native.Nat.{ℕ, _<_}
+use Prim.Native.Nat.{ℕ, _≤_, _<_}
 use mathlib.Core.Path.{_≡_, refl, sym, _∙_, ap, subst}
 use mathlib.Core.Bool.{Bool, true, false, _||_, false≢true}
 use mathlib.Core.Option.{Option, none, some}
-use mathlib.Core.List.{List, [], _∷_, map}
+use mathlib.Core.List.{List, _∷_, map}
 use mathlib.Core.Logic.{_⊎_, inl, inr}
 use lib.ListN.{length}
 use Rattle.laws.specs.Lists.{All, modify, nth}
 use Rattle.laws.specs.Optional.{omap}
+use Rattle.laws.proofs.Choices.{none-some}
 use Rattle.laws.proofs.Maps.{length-of, nth-map}
 use Rattle.capability.specs.Numbers.{numbers}
 use Rattle.capability.specs.declared.Phase.the-variants.{Wait}
@@ -16,18 +17,20 @@ use Rattle.model.specs.Op.{Op, with-hazard}
 use Rattle.model.specs.Registers.{producer-of}
 use Rattle.model.specs.State.{Log, State, stall-all}
 use Rattle.model.specs.Units.{FunctionalUnit, clear, clear-hazard, units, with-busy, without-waits}
-use Rattle.model.specs.Write.{start-cycle, take-out, writable-unit, writing}
-use Rattle.model.specs.Issue.{complete-offer, issue, issuing}
-use Rattle.model.specs.Scoreboard.{close-cycle, closed, scoreboard, stops}
+use Rattle.model.specs.Write.{start-cycle, writable-unit, writing}
+use Rattle.model.specs.Issue.{issue}
+use Rattle.model.specs.Scoreboard.{closed, stops}
 use Rattle.runs.proofs.Tracks.{all-map}
-use Rattle.invariant.specs.Invariant.{Invariant, front-number, offered}
+use Rattle.invariant.specs.Invariant.{Holds, Invariant, front-number, offered}
 use Rattle.invariant.proofs.Lists.{length-modify, map-same, nth-image, nth-same, omap-back}
 use Rattle.invariant.proofs.Consistent.{Consistent}
 use Rattle.invariant.proofs.Entries.{entry, entry-at, entry-held, marked-same}
-use Rattle.ending.proofs.Oldest.{oldest-unblocked, oldest-unwaiting}
-use Rattle.ending.proofs.Offered.{unblocked-offered}
+use Rattle.book.proofs.Blocking.{busy-holds, holds-busy}
+use Rattle.book.proofs.Holds.{outside}
+use Rattle.book.proofs.Oldest.{oldest-offered, oldest-unwaiting as oldest-unheld}
+use Rattle.ending.proofs.Oldest.{Oldest, oldest-unwaiting}
 use Rattle.ending.proofs.Cycle.{advance-runs, cleared, closed-log, closed-queue, cycled, found, marked, settled, settled-same, still-finished}
-use Rattle.ending.proofs.Progress.{before, cleared-consistent, closed-marked, middle, unoffered}
+use Rattle.ending.proofs.Progress.{before, closed-found, closed-marked, middle, unoffered}
 use Rattle.ending.proofs.Cycled.{middle-running}
 use Rattle.ordering.specs.Ordering.{None-orders}
 use Rattle.ordering.proofs.Ahead.{Access, Ahead, Free-to-go, Part, Quick, ahead-as, ahead-three, busy-oldest, free-ahead, free-to-go, modify-back, older-oldest, part}
@@ -120,33 +123,33 @@ module _ (s : State) (h : Invariant s) (out : s .front .in-cycle ≡ false) (o :
   ahead-marked =
       ahead-as (marked s) (cleared s) (marked-same part (λ x u. refl) (writable-unit (cleared s) .turned-away) (cleared s)) ahead-cleared
 
+  no-offer : s .offer .writing ≡ none
+  no-offer = outside s h out
+
   -- No offer: the older of two waits for nothing, and is not finished.
-  free-cleared : found s ≡ none → Free-to-go (cleared s)
-  free-cleared e i j u v a b x y l =
-      let q = older-oldest (cleared s) (ahead-cleared .two) i j u v a b (x .busy) l in (
-        oldest-unwaiting (cleared s) (producer-of (s .producer)) (s .marks .branch) (s .marks .system)
-            (front-number (s .queue) (s .front .next-seq)) (cleared-consistent s h out) i u q,
-        λ p.
-            unblocked-offered (cleared s) e i u a (x .busy) p
-            (oldest-unblocked (cleared s) (producer-of (s .producer)) (s .marks .branch) (s .marks .system)
-            (front-number (s .queue) (s .front .next-seq)) (cleared-consistent s h out) i u q),
+  free-units : found s ≡ none → Free-to-go (s .units)
+  unfolding writing
+  free-units e i j u v a b x y l =
+      let q = older-oldest (s .units) (o .units .two) i j u v a b (x .busy) l in
+      let held = busy-holds s i u a (x .busy) in (
+        oldest-unheld s h no-offer i u held (least i u q),
+        λ p. none-some i (sym e ∙ oldest-offered s h no-offer i u held (least i u q) p),
       )
+    where
+      least
+          : (i : ℕ) (u : FunctionalUnit) → Oldest (s .units) i u → (j : ℕ) (v : FunctionalUnit) → Holds s j v
+          → u .op .core .seq ≤ v .op .core .seq
+      least i u q j v k = q .least j v (k .there) (holds-busy s no-offer j v k)
 
   free-marked : found s ≡ none → Free-to-go (marked s)
   unfolding units
   free-marked e =
-      free-as (marked s) (cleared s) (marked-same seen (λ x u. refl) (writable-unit (cleared s) .turned-away) (cleared s)) (free-cleared e)
+      free-as (marked s) (s .units)
+      (marked-same seen (λ x u. refl) (writable-unit (cleared s) .turned-away) (cleared s) ∙ map-same seen clear-hazard (λ u. refl) (s .units))
+      (free-units e)
 
   abbrev halfway : State
   halfway = middle s h out
-
-  closed-completed : (i : ℕ) → found s ≡ some i → closed halfway .units ≡ completed i (marked s)
-  unfolding writing scoreboard issuing
-  closed-completed i e =
-      let a = settled-same (start-cycle s .offer .writing) (start-cycle s) in
-      ap (λ (w : Option ℕ). close-cycle (complete-offer w halfway) .units) (a .writing ∙ e)
-      ∙ ap (λ (us : List FunctionalUnit). map (without-waits i) (modify i clear us))
-      (a .units ∙ ap (λ (f : Option ℕ). take-out f (marked s)) e)
 
   going-closed : Going (closed halfway .units)
   going-closed = go (found s) refl
@@ -155,7 +158,7 @@ module _ (s : State) (h : Invariant s) (out : s .front .in-cycle ≡ false) (o :
       go none e = subst Going (sym (closed-marked s h out e)) (ahead-marked, free-marked e)
       go (some i) e =
           let u = still-finished s i e in
-          subst Going (sym (closed-completed i e)) (going-completed (marked s) ahead-marked i (u .0) (u .1))
+          subst Going (sym (closed-found s h out i e)) (going-completed (marked s) ahead-marked i (u .0) (u .1))
 
   -- ── The waits, and the queue ────────────────────────────────────────────────
 

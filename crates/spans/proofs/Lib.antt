@@ -1,0 +1,6 @@
+pub mod Sums
+pub mod Few
+pub mod Cells
+pub mod Single
+pub mod Short
+pub mod Spans
