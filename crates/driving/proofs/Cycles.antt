@@ -5,22 +5,49 @@ use mathlib.Core.Bool.{Bool, true, false, cond, not, _||_}
 use mathlib.Core.Logic.{⊎-elim}
 use mathlib.Core.Option.{Option, none, some}
 use mathlib.Core.List.{List, [], _∷_}
+use lib.Dec.{eqb}
 use lib.ListN.{length}
 use Rattle.laws.specs.Optional.{is-none, is-some, when-some, omap}
 use Rattle.laws.proofs.Tests.{cond-yes, cond-no, lt-or-ge}
 use Rattle.model.specs.State.{State}
 use Rattle.model.specs.Timeline.{write-all}
 use Rattle.model.specs.Units.{unit-at}
-use Rattle.model.specs.Write.{offered-op}
-use Rattle.model.specs.Calls.{Call, start, retire, advance, no-offer as none-on-offer, first-of, checks, refusal, sets, memory-after}
+use Rattle.model.specs.Write.{offered-op, start-cycle}
+use Rattle.model.specs.Calls.{
+  Call,
+  start,
+  retire,
+  advance,
+  done,
+  refused,
+  no-offer as none-on-offer,
+  first-of,
+  checks,
+  refusal,
+  run,
+  after,
+  sets,
+  memory-after,
+}
 use Rattle.model.specs.Forecast.{lent-of, play, retire-offer, cycle}
+use Rattle.checks.specs.Numbered.{numbered}
+use Rattle.checks.proofs.Table.{passed}
+use Rattle.invariant.specs.Invariant.{Invariant}
+use Rattle.invariant.proofs.Invariant.{invariant-kept}
+use Rattle.board.specs.declared.Board.{Board}
 use Rattle.board.specs.View.{viewBoard}
+use Rattle.board.specs.Contracts.{Starts as Opens}
 use Rattle.scoreboard.specs.declared.ScoreboardPipeline.{ScoreboardPipeline}
 use Rattle.scoreboard.specs.declared.Next.{Next}
-use Rattle.scoreboard.specs.View.{viewEngine}
-use Rattle.scoreboard.specs.Calls.{Does}
+use Rattle.scoreboard.specs.declared.Answer.{Answer}
+use Rattle.scoreboard.specs.declared.Answer.the-variants.{Refused, Done}
+use Rattle.scoreboard.specs.View.{frame-of, viewEngine, viewAnswer}
+use Rattle.scoreboard.specs.Valid.{Valid}
+use Rattle.scoreboard.specs.Calls.{Does, Tells, with-board}
 use Rattle.scoreboard.proofs.Does.{same-size}
 use Rattle.scoreboard.proofs.Answers.{no-index, an-index}
+use Rattle.scoreboard.proofs.Boards.{started-parts, no-offer-outside}
+use Rattle.scoreboard.proofs.Loops.{does-no-start}
 use Rattle.driving.specs.Runs.{Starts, Cycles}
 
 -- ── The lent memory ─────────────────────────────────────────────────────────
@@ -34,11 +61,52 @@ memory-same s c m e = go (refusal s c)
     go none = ap (λ w. write-all w m) e
     go (some k) = refl
 
+-- What a call leaves, whatever it answers.
+pub record Comes (e : ScoreboardPipeline) (c : Call) (r : ScoreboardPipeline) : Type 0 where
+  pub is : viewEngine r ≡ after (viewEngine e) c
+  pub valid : Valid r
+
+pub comes : {e : ScoreboardPipeline} {c : Call} {k : Next} → Does e c k → Comes e c (k .engine)
+comes d = record { is = d .engine; valid = d .valid }
+
 -- A call that was made, with the memory lent.
-pub played : {e : ScoreboardPipeline} {c : Call} {k : Next} (m : List ℕ) {n : List ℕ} → Does e c k → n ≡ memory-after (viewEngine e) c m
-    → lent-of (viewEngine (k .engine)) n ≡ play c (lent-of (viewEngine e) m)
+pub played : {e r : ScoreboardPipeline} {c : Call} (m : List ℕ) {n : List ℕ} → Comes e c r → n ≡ memory-after (viewEngine e) c m
+    → lent-of (viewEngine r) n ≡ play c (lent-of (viewEngine e) m)
 unfolding play
-played m d w = ap₂ (λ s n. lent-of s n) (d .engine) w
+played m d w = ap₂ (λ s n. lent-of s n) (d .is) w
+
+-- An answer for a number.
+pub told : ℕ → Answer
+told n = cond (eqb n 0) Done (Refused n)
+
+pub tells : (n : ℕ) → Tells n (told n)
+unfolding numbered viewAnswer told
+tells n = go (eqb n 0)
+  where
+    go : (b : Bool) → viewAnswer (cond b Done (Refused n)) ≡ when-some (cond b none (some n)) done refused
+    go true = refl
+    go false = refl
+
+-- ── The start ───────────────────────────────────────────────────────────────
+
+module _ {e : ScoreboardPipeline} (v : Valid e) where
+  pub begins-not : e .board .front .«in_cycle» ≡ true → Comes e start e
+  begins-not h = comes (does-no-start v h (tells 4))
+
+  pub begins : e .board .front .«in_cycle» ≡ false → {b : Board} → Opens (e .board) b start-cycle → Comes e start (with-board b e)
+  unfolding viewEngine viewBoard refusal checks run first-of after
+  begins h {b} s =
+      let same : viewEngine (with-board b e) ≡ after (viewEngine e) start =
+      s .is (frame-of e) ∙ sym (ap (λ (o : Option ℕ). when-some o (start-cycle (viewEngine e)) (λ (k : ℕ). viewEngine e)) (passed 4 [] h))
+      in
+      record {
+        is = same;
+        valid =
+            record {
+              parts = started-parts e b (v .parts) (no-offer-outside v h) s;
+              invariant = subst Invariant (sym same) (invariant-kept (viewEngine e) start (v .invariant));
+            };
+      }
 
 -- ── The offer ───────────────────────────────────────────────────────────────
 
@@ -51,28 +119,28 @@ module _ (e : ScoreboardPipeline) where
   unfolding offered-op viewEngine viewBoard
   no-offer h = ap (λ (o : Option ℕ). is-some (omap (λ (i : ℕ). unit-at (viewEngine e .units) i .op) o)) (no-index (e .board .offer .writing) h)
 
-module _ {e : ScoreboardPipeline} {a : Next} (d : Does e start a) where
-  begun : (m : List ℕ) → lent-of (viewEngine (a .engine)) m ≡ play start (lent-of (viewEngine e) m)
+module _ {e r : ScoreboardPipeline} (d : Comes e start r) where
+  begun : (m : List ℕ) → lent-of (viewEngine r) m ≡ play start (lent-of (viewEngine e) m)
   unfolding sets
   begun m = played m d (sym (memory-same (viewEngine e) start m refl))
 
-  retired : a .engine .board .offer .writing < 64 → {k : Next} → Does (a .engine) retire k → Starts e (k .engine)
+  retired : r .board .offer .writing < 64 → {k : Next} → Does r retire k → Starts e (k .engine)
   unfolding retire-offer sets
-  retired h {k} r =
+  retired h {k} t =
       record {
         is =
             λ m.
-            played m r (sym (memory-same (viewEngine (a .engine)) retire m refl))
-            ∙ sym (cond-yes _ _ (an-offer (a .engine) h))
+            played m (comes t) (sym (memory-same (viewEngine r) retire m refl))
+            ∙ sym (cond-yes _ _ (an-offer r h))
             ∙ ap retire-offer (begun m);
-        valid = r .valid;
+        valid = t .valid;
       }
 
-  none-offered : 64 ≤ a .engine .board .offer .writing → Starts e (a .engine)
+  none-offered : 64 ≤ r .board .offer .writing → Starts e r
   unfolding retire-offer
   none-offered h =
       record {
-        is = λ m. sym (cond-no _ _ (no-offer (a .engine) h)) ∙ ap retire-offer (begun m);
+        is = λ m. sym (cond-no _ _ (no-offer r h)) ∙ ap retire-offer (begun m);
         valid = d .valid;
       }
 
@@ -89,9 +157,9 @@ no-retire e h =
     go false = refl
 
 -- So it is the offer, if there is one, that is retired.
-pub settled : {e : ScoreboardPipeline} {a k : Next} → Does e start a → Does (a .engine) retire k → Starts e (k .engine)
-settled {e} {a} d r =
-    ⊎-elim (λ h. retired d h r) (λ h. subst (Starts e) (sym (r .refused _ (no-retire (a .engine) h))) (none-offered d h)) (lt-or-ge (a .engine .board .offer .writing) 64)
+pub settled : {e r : ScoreboardPipeline} {k : Next} → Comes e start r → Does r retire k → Starts e (k .engine)
+settled {e} {r} d t =
+    ⊎-elim (λ h. retired d h t) (λ h. subst (Starts e) (sym (t .refused _ (no-retire r h))) (none-offered d h)) (lt-or-ge (r .board .offer .writing) 64)
 
 -- ── The advance ─────────────────────────────────────────────────────────────
 
@@ -101,7 +169,7 @@ pub cycled : {e h : ScoreboardPipeline} {k : Next} {m n : List ℕ} → Starts e
 unfolding cycle
 cycled {h = h} {m = m} s d w =
     record {
-      is = played m d w ∙ ap (play (advance none (length m))) (s .is m);
+      is = played m (comes d) w ∙ ap (play (advance none (length m))) (s .is m);
       size = same-size (viewEngine h) (advance none (length m)) m w;
       valid = d .valid;
     }

@@ -10,20 +10,22 @@ use Rattle.model.specs.Scoreboard.{idle}
 use Rattle.flight.specs.View.{Legend, viewQueue}
 use Rattle.flight.proofs.Entries.{queue-length}
 use Rattle.bank.specs.View.{viewUnits}
-use Rattle.board.specs.View.{viewBoard}
+use Rattle.board.specs.declared.Board.{Board}
+use Rattle.board.specs.View.{viewBoard, BoardOk}
 use Rattle.scoreboard.specs.declared.ScoreboardPipeline.{ScoreboardPipeline}
 use Rattle.scoreboard.specs.View.{legend-of, viewEngine}
-use Rattle.scoreboard.specs.Valid.{Valid}
+use Rattle.scoreboard.specs.Calls.{with-board}
 
-module _ (e : ScoreboardPipeline) (v : Valid e) where
-  pub queue-empty : e .board .queue .len ≡ 0 → (b : Bool) → ((g : Legend) → b ≡ any is-busy (viewUnits g (e .board .units))) → not b ≡ idle (viewEngine e)
+module _ (b : Board) (k : BoardOk b) where
+  pub queue-empty
+      : b .queue .len ≡ 0 → (r : Bool) → ((g : Legend) → r ≡ any is-busy (viewUnits g (b .units))) → (e : ScoreboardPipeline) → not r ≡ idle (viewEngine (with-board b e))
   unfolding idle viewEngine viewBoard
-  queue-empty h b f =
+  queue-empty h r f e =
       ap not (f (legend-of e))
-      ∙ sym (and-next _ (empty-yes (viewQueue (legend-of e) (e .board .queue)) (queue-length (v .parts .board .queue) (legend-of e) ∙ h)))
+      ∙ sym (and-next _ (empty-yes (viewQueue (legend-of e) (b .queue)) (queue-length (k .queue) (legend-of e) ∙ h)))
 
-  pub queue-taken : (e .board .queue .len ≡ 0 → ⊥) → false ≡ idle (viewEngine e)
+  pub queue-taken : (b .queue .len ≡ 0 → ⊥) → (e : ScoreboardPipeline) → false ≡ idle (viewEngine (with-board b e))
   unfolding idle viewEngine viewBoard
-  queue-taken h =
-      let n = queue-length (v .parts .board .queue) (legend-of e) in
-      sym (and-no _ (empty-no (viewQueue (legend-of e) (e .board .queue)) (omega (arith, n, h))))
+  queue-taken h e =
+      let n = queue-length (k .queue) (legend-of e) in
+      sym (and-no _ (empty-no (viewQueue (legend-of e) (b .queue)) (omega (arith, n, h))))

@@ -3,10 +3,8 @@ use Prim.Native.Nat.{ℕ, suc, _+_, _≤_}
 use mathlib.Core.Path.{_≡_, refl, sym, ap, ap₂, _∙_}
 use mathlib.Core.Bool.{true, false, not, false≢true}
 use mathlib.Core.Option.{Option, none, some}
-use mathlib.Core.List.{List, [], _∷_}
+use mathlib.Core.List.{List}
 use native.Mathlib.Omega.{arith}
-use types.Run.{OneOf, miss}
-use denote.Enum.Declared.{tagOf}
 use lib.ListN.{length, drop}
 use Rattle.laws.specs.Optional.{when-some}
 use Rattle.laws.specs.Texts.{Text}
@@ -32,46 +30,32 @@ use Rattle.op.specs.View.{viewOp}
 use Rattle.lines.specs.declared.Read.{Read}
 use Rattle.lines.specs.Lines.{LineRead, Stands}
 use Rattle.lines.proofs.Stands.{fetched-alike}
+use Rattle.checks.specs.Numbered.{numbered}
 use Rattle.board.specs.View.{viewBoard}
 use Rattle.scoreboard.specs.declared.ScoreboardPipeline.{ScoreboardPipeline}
 use Rattle.scoreboard.specs.declared.Next.{Next}
 use Rattle.scoreboard.specs.declared.Answer.{Answer}
-use Rattle.scoreboard.specs.declared.Answer.the-variants.{Refused, Done, Offered, NoOffer, Resolved, NotResolved, Invitation, NoInvitation}
-use Rattle.scoreboard.proofs.Answer as answers
 use Rattle.scoreboard.specs.View.{viewEngine, viewAnswer}
 use Rattle.scoreboard.specs.Valid.{Valid}
-use Rattle.scoreboard.specs.Calls.{Does}
+use Rattle.scoreboard.specs.Calls.{Does, Tells}
 use Rattle.scoreboard.proofs.Does.{memory-kept}
+use Rattle.scoreboard.proofs.Fetches.{some-number, no-number}
 use Rattle.driving.specs.Runs.{run-by, viewRun, Goes}
-use Rattle.driving.proofs.Cycles.{played}
+use Rattle.driving.proofs.Cycles.{comes, played}
 
 -- ── What a fetch answers ────────────────────────────────────────────────────
 
 module _ (s : State) (m : List ℕ) (g : Given) (lent : ℕ) where
-  fetch-refused : (x : Answer) {n : ℕ} → viewAnswer x ≡ answer s m (fetch g lent) → x ≡ Refused n → refusal s (fetch g lent) ≡ some n
-  unfolding answer reply viewAnswer
-  fetch-refused x {n} e q = go (refusal s (fetch g lent)) (sym (ap viewAnswer q) ∙ e)
+  -- The number is that of its refusal.
+  fetch-told : (x : Answer) (n : ℕ) → viewAnswer x ≡ answer s m (fetch g lent) → Tells n x → numbered n ≡ refusal s (fetch g lent)
+  unfolding answer reply
+  fetch-told x n e t = go (numbered n) (refusal s (fetch g lent)) (sym t ∙ e)
     where
-      go : (o : Option ℕ) → refused n ≡ when-some o done refused → o ≡ some n
-      go none h = cc
-      go (some k) h = cc
-
-  fetch-done : (x : Answer) → viewAnswer x ≡ answer s m (fetch g lent)
-      → OneOf (1 ∷ 2 ∷ 3 ∷ 4 ∷ 5 ∷ 6 ∷ 7 ∷ []) (tagOf answers.the-type x)
-      → refusal s (fetch g lent) ≡ none
-  unfolding answer reply viewAnswer
-  fetch-done x e t = go (refusal s (fetch g lent)) x e t
-    where
-      go : (o : Option ℕ) (y : Answer) → viewAnswer y ≡ when-some o done refused → OneOf (1 ∷ 2 ∷ 3 ∷ 4 ∷ 5 ∷ 6 ∷ 7 ∷ []) (tagOf answers.the-type y) → o ≡ none
-      go none y h u = refl
-      go (some k) (Refused n) h u = absurd (miss (1 ∷ 2 ∷ 3 ∷ 4 ∷ 5 ∷ 6 ∷ 7 ∷ []) 0 tt u)
-      go (some k) Done h u = cc
-      go (some k) (Offered v) h u = cc
-      go (some k) NoOffer h u = cc
-      go (some k) (Resolved v) h u = cc
-      go (some k) NotResolved h u = cc
-      go (some k) (Invitation v) h u = cc
-      go (some k) NoInvitation h u = cc
+      go : (p o : Option ℕ) → when-some p done refused ≡ when-some o done refused → p ≡ o
+      go none none h = refl
+      go none (some k) h = cc
+      go (some n) none h = cc
+      go (some n) (some k) h = cc
 
 -- ── A line that was read ────────────────────────────────────────────────────
 
@@ -120,40 +104,43 @@ module _ (input : Text) (from lines : ℕ) (r : Read) (e : ScoreboardPipeline) (
       }
 
   module _ {k : Next} {n : List ℕ} (d : Does e (fetch (viewOp (r .op)) (length m)) k)
-      (w : n ≡ memory-after (viewEngine e) (fetch (viewOp (r .op)) (length m)) m) (f : not (r .form) ≡ false) where
-    pub refused-line : {no : ℕ} → k .answer ≡ Refused no
-        → Goes input (taking (parse (first-line (drop from input)))) (record { engine = k .engine; at = r .next; lines = lines + 1; stands = 2; number = no }) n
+      (w : n ≡ memory-after (viewEngine e) (fetch (viewOp (r .op)) (length m)) m) (f : not (r .form) ≡ false) (number : ℕ) (t : Tells number (k .answer)) where
+    told-of : numbered number ≡ refusal (viewEngine e) (fetch (viewOp (r .op)) (length m))
+    told-of = fetch-told (viewEngine e) m (viewOp (r .op)) (length m) (k .answer) number (d .answer m) t
+
+    pub refused-line : (number ≡ 0 → ⊥)
+        → Goes input (taking (parse (first-line (drop from input)))) (record { engine = k .engine; at = r .next; lines = lines + 1; stands = 2; number = number }) n
     unfolding take-parsed take-fetched fetch-line viewRun run-by
-    refused-line {no} q =
-        let o = fetch-refused (viewEngine e) m (viewOp (r .op)) (length m) (k .answer) (d .answer m) q in
+    refused-line z =
+        let o = some-number told-of z in
         let kept = memory-kept (viewEngine e) (fetch (viewOp (r .op)) (length m)) m o in
         record {
           is =
               by-line l _ f
-              (λ x p t.
+              (λ x p u.
               let g = line-given x (viewEngine e .front .fetch-pc) in
-              let alike = fetched-alike (viewEngine e) (length m) g (r .op) t in
-              ap₂ (λ i c. line-refused i no c) one-more (w ∙ sym kept) ∙ sym (ap (fetching g) (sym (alike .refused) ∙ o)) ∙ sym (ap taking p));
+              let alike = fetched-alike (viewEngine e) (length m) g (r .op) u in
+              ap₂ (λ i c. line-refused i number c) one-more (w ∙ sym kept) ∙ sym (ap (fetching g) (sym (alike .refused) ∙ o)) ∙ sym (ap taking p));
           valid = d .valid;
           at = l .most;
           lines = omega (arith, l .on, h);
         }
 
-    pub fetched-line : OneOf (1 ∷ 2 ∷ 3 ∷ 4 ∷ 5 ∷ 6 ∷ 7 ∷ []) (tagOf answers.the-type (k .answer))
+    pub fetched-line : number ≡ 0
         → Goes input (taking (parse (first-line (drop from input)))) (record { engine = k .engine; at = r .next; lines = lines + 1; stands = 0; number = 0 }) n
     unfolding take-parsed take-fetched fetch-line viewRun run-by
-    fetched-line q =
-        let o = fetch-done (viewEngine e) m (viewOp (r .op)) (length m) (k .answer) (d .answer m) q in
+    fetched-line z =
+        let o = no-number told-of z in
         record {
           is =
               by-line l _ f
-              (λ x p t.
+              (λ x p u.
               let g = line-given x (viewEngine e .front .fetch-pc) in
-              let alike = fetched-alike (viewEngine e) (length m) g (r .op) t in
+              let alike = fetched-alike (viewEngine e) (length m) g (r .op) u in
               let free = sym (alike .refused) ∙ o in
               let same = ap (λ y. play (fetch y (length m)) (lent-of (viewEngine e) m)) (alike .taken free) in
-              ap₂ (λ u i. going (lent-of (viewEngine (k .engine)) n) u i) (l .others) one-more
-              ∙ ap (λ u. going u (other-lines (drop from input)) (suc lines)) (played m d w ∙ same)
+              ap₂ (λ y i. going (lent-of (viewEngine (k .engine)) n) y i) (l .others) one-more
+              ∙ ap (λ y. going y (other-lines (drop from input)) (suc lines)) (played m (comes d) w ∙ same)
               ∙ sym (ap (fetching g) free)
               ∙ sym (ap taking p));
           valid = d .valid;

@@ -106,8 +106,8 @@ module _ (e : ScoreboardPipeline) (input : Text) (at lines : ℕ) (m : List ℕ)
   unfolding turn turn-by
   turn-is h = ap (λ b. turn-by b (lent-of (viewEngine e) m) (drop at input) lines) h
 
-  pub turn-ends : Valid e → lines ≤ at → at ≡ length input → idle (viewEngine e) ≡ true
-      → Goes input (turn (lent-of (viewEngine e) m) (drop at input) lines) (record { engine = e; at = at; lines = lines; stands = 1; number = 0 }) m
+  pub turn-ends : Valid e → lines ≤ at → at ≡ length input → idle (viewEngine e) ≡ true → {number : ℕ}
+      → Goes input (turn (lent-of (viewEngine e) m) (drop at input) lines) (record { engine = e; at = at; lines = lines; stands = 1; number = number }) m
   unfolding turn-by viewRun run-by
   turn-ends v l h i =
       record {
@@ -132,9 +132,10 @@ module _ (e : ScoreboardPipeline) (input : Text) (at lines : ℕ) (m : List ℕ)
 
 -- ── Many turns ──────────────────────────────────────────────────────────────
 
--- What is left to run comes to the whole run.
+-- What is left to run comes to the whole run; while there is fuel it goes on.
 pub record Running (input : Text) (whole : Run) (cells₀ cells : List ℕ) (g : Going) (fuel : ℕ) : Type 0 where
   pub is : forecast-run fuel (viewRun input g cells) ≡ whole
+  pub on : 0 < fuel → g .stands ≡ 0
   pub valid : Valid (g .engine)
   pub at : g .at ≤ length input
   pub lines : g .lines ≤ g .at
@@ -154,33 +155,49 @@ stays (suc fuel) (suc zero) input g cells h = refl
 stays (suc fuel) (suc (suc k)) input g cells h = refl
 
 module _ {input : Text} {whole : Run} {cells₀ cells : List ℕ} {g : Going} {fuel : ℕ} (r : Running input whole cells₀ cells g fuel) where
-  pub running-next : {h : Going} {next : List ℕ} → 0 < fuel → g .stands ≡ 0
-      → Goes input (turn (lent-of (viewEngine (g .engine)) cells) (drop (g .at) input) (g .lines)) h next
-      → length next ≡ length cells
-      → Running input whole cells₀ next h (fuel - 1)
-  unfolding viewRun run-by
-  running-next f s t n =
-      record {
-        is =
-            ap (forecast-run (fuel - 1)) (t .is)
-            ∙ turned fuel (lent-of (viewEngine (g .engine)) cells) (drop (g .at) input) (g .lines) f
-            ∙ sym (ap (λ k. forecast-run fuel (run-by k input g cells)) s)
-            ∙ r .is;
-        valid = t .valid;
-        at = t .at;
-        lines = t .lines;
-        size = n ∙ r .size;
-      }
+  -- A turn.
+  module _ (f : 0 < fuel) {h : Going} {next : List ℕ} (t : Goes input (turn (lent-of (viewEngine (g .engine)) cells) (drop (g .at) input) (g .lines)) h next)
+      (n : length next ≡ length cells) where
+    left : forecast-run (fuel - 1) (viewRun input h next) ≡ whole
+    unfolding viewRun run-by
+    left =
+        ap (forecast-run (fuel - 1)) (t .is)
+        ∙ turned fuel (lent-of (viewEngine (g .engine)) cells) (drop (g .at) input) (g .lines) f
+        ∙ sym (ap (λ k. forecast-run fuel (run-by k input g cells)) (r .on f))
+        ∙ r .is
 
-  pub running-ended : (g .stands ≡ 0 → ⊥) → Goes input whole g cells
-  unfolding viewRun
-  running-ended s =
-      record {
-        is = sym (stays fuel (g .stands) input g cells s) ∙ r .is;
-        valid = r .valid;
-        at = r .at;
-        lines = r .lines;
-      }
+    -- While it goes on, what a line would have been refused with does not count.
+    pub running-next : h .stands ≡ 0
+        → Running input whole cells₀ next (record { engine = h .engine; at = h .at; lines = h .lines; stands = g .stands; number = g .number }) (fuel - 1)
+    unfolding viewRun run-by
+    running-next s =
+        record {
+          is =
+              ap
+              (λ k.
+              forecast-run (fuel - 1)
+              (run-by k input (record { engine = h .engine; at = h .at; lines = h .lines; stands = g .stands; number = g .number }) next))
+              (r .on f)
+              ∙ sym (ap (λ k. forecast-run (fuel - 1) (run-by k input h next)) s)
+              ∙ left;
+          on = λ q. r .on f;
+          valid = t .valid;
+          at = t .at;
+          lines = t .lines;
+          size = n ∙ r .size;
+        }
+
+    pub running-ended : (h .stands ≡ 0 → ⊥) → Running input whole cells₀ next h 0
+    unfolding viewRun forecast-run
+    running-ended s =
+        record {
+          is = sym (stays (fuel - 1) (h .stands) input h next s) ∙ left;
+          on = λ q. absurd (let z : ⊥ = omega (arith, q) in z);
+          valid = t .valid;
+          at = t .at;
+          lines = t .lines;
+          size = n ∙ r .size;
+        }
 
   pub running-spent : fuel ≤ 0 → Goes input whole g cells
   unfolding forecast-run
@@ -190,18 +207,6 @@ module _ {input : Text} {whole : Run} {cells₀ cells : List ℕ} {g : Going} {f
         valid = r .valid;
         at = r .at;
         lines = r .lines;
-      }
-
-  -- While it goes on, what a line would have been refused with does not count.
-  pub going-on : g .stands ≡ 0 → Running input whole cells₀ cells (record { engine = g .engine; at = g .at; lines = g .lines; stands = 0; number = 0 }) fuel
-  unfolding viewRun run-by
-  going-on s =
-      record {
-        is = ap (λ k. forecast-run fuel (run-by k input g cells)) (sym s) ∙ r .is;
-        valid = r .valid;
-        at = r .at;
-        lines = r .lines;
-        size = r .size;
       }
 
 -- The run from the start, with its fuel.

@@ -6,9 +6,15 @@ use lib.ListN.{length, drop}
 use Rattle.laws.specs.Texts.{Text}
 use Rattle.model.specs.Calls.{start}
 use Rattle.model.specs.Forecast.{Run, line-refused, finished, going, lent-of, play, retire-offer, cycle}
+use Rattle.config.specs.declared.Machine.{Machine}
+use Rattle.timeline.specs.declared.Tracks.{Tracks}
+use Rattle.timeline.specs.declared.Window.{Window}
+use Rattle.board.specs.declared.Board.{Board}
+use Rattle.scoreboard.specs.declared.advance.Rest.{Rest}
 use Rattle.scoreboard.specs.declared.ScoreboardPipeline.{ScoreboardPipeline}
 use Rattle.scoreboard.specs.View.{viewEngine}
 use Rattle.scoreboard.specs.Valid.{Valid}
+use Rattle.scoreboard.specs.Advance.{engine-of}
 use Rattle.driving.specs.declared.Going.{Going}
 
 -- By how it stands: 0 while it goes on, 1 where it is finished, else a line was refused.
@@ -31,6 +37,17 @@ pub record Cycles (e : ScoreboardPipeline) (m : List ℕ) (r : ScoreboardPipelin
   pub is : lent-of (viewEngine r) n ≡ cycle (lent-of (viewEngine e) m)
   pub size : length n ≡ length m
   pub valid : Valid r
+
+-- There is a valid engine with these parts.
+pub record Cyclable (b : Board) (w : Window) (ts : Tracks) (m : Machine) (known held : ℕ) : Type 0 where
+  pub engine : ScoreboardPipeline
+  pub valid : Valid (engine-of b w ts m known held engine)
+
+-- It is the cycle of every engine with these parts.
+abbrev pub CyclesWith : Board → Window → Tracks → Machine → ℕ → ℕ → List ℕ → Rest → List ℕ → Type 0
+CyclesWith b w ts m known held before r after =
+    (e : ScoreboardPipeline) → Valid (engine-of b w ts m known held e)
+    → Cycles (engine-of b w ts m known held e) before (engine-of (r .board) w (r .tracks) m (r .known) (r .held) e) after
 
 -- The run is this one of the model's, with the cells m; no more lines were taken than there are bytes before the rest of the input.
 pub record Goes (input : Text) (run : Run) (g : Going) (m : List ℕ) : Type 0 where

@@ -158,32 +158,32 @@ module _ {e : ScoreboardPipeline} (v : Valid e) {o : PipelineOp} {lent : ℕ} (f
 
 -- ── After ───────────────────────────────────────────────────────────────────
 
-abbrev pub next-board : ScoreboardPipeline → ℕ → Queue → Board
-next-board e pc k =
+abbrev pub next-board : Board → ℕ → Queue → Board
+next-board b pc k =
     record {
-      units = e .board .units;
+      units = b .units;
       «fetch_pc» = pc;
       queue = k;
-      offer = e .board .offer;
-      claims = e .board .claims;
+      offer = b .offer;
+      claims = b .claims;
       front =
           record {
-            enabled = e .board .front .enabled;
-            halted = e .board .front .halted;
-            faulted = e .board .front .faulted;
-            «in_cycle» = e .board .front .«in_cycle»;
+            enabled = b .front .enabled;
+            halted = b .front .halted;
+            faulted = b .front .faulted;
+            «in_cycle» = b .front .«in_cycle»;
             invited = false;
           };
-      log = e .board .log;
-      marks = e .board .marks;
-      gone = e .board .gone;
-      status = e .board .status;
+      log = b .log;
+      marks = b .marks;
+      gone = b .gone;
+      status = b .status;
     }
 
 abbrev pub next-engine : ScoreboardPipeline → Resolved → ℕ → ℕ → Queue → Decoded → Texts → Tracks → RowTexts → Window → ScoreboardPipeline
 next-engine e x p pc k d t ts xs w =
     record {
-      board = next-board e pc k;
+      board = next-board (e .board) pc k;
       window = w;
       tracks = ts;
       decoded = record { items = set (e .decoded .items) p d };

@@ -44,15 +44,13 @@ use Rattle.board.specs.View.{viewBoard}
 use Rattle.board.specs.Contracts.{Closes}
 use Rattle.scoreboard.specs.declared.ScoreboardPipeline.{ScoreboardPipeline}
 use Rattle.scoreboard.specs.declared.Next.{Next}
-use Rattle.scoreboard.specs.declared.advance.Rest.{Rest}
 use Rattle.scoreboard.specs.declared.Answer.the-variants.{NoInvitation}
 use Rattle.scoreboard.specs.View.{frame-of, viewEngine, viewAnswer}
 use Rattle.scoreboard.specs.Valid.{Parts, Valid}
-use Rattle.scoreboard.specs.Calls.{Does}
-use Rattle.scoreboard.specs.Advance.{issued, Worked, worked-writes, open-offer, engine-of, Restable, Rests}
+use Rattle.scoreboard.specs.Calls.{Does, with-board}
+use Rattle.scoreboard.specs.Advance.{issued, Worked, worked-writes, open-offer}
 use Rattle.scoreboard.proofs.Does.{does-taken, memory-kept, memory-set}
 use Rattle.scoreboard.proofs.Answers.{no-index}
-use Rattle.scoreboard.proofs.Boards.{with-board}
 use Rattle.scoreboard.proofs.Fetches.{row-passes, yes-of-not}
 
 -- ── The cycle closes ────────────────────────────────────────────────────────
@@ -128,31 +126,6 @@ closed-offer w retired h = ap (λ (o : Option ℕ). not (is-none o) && not retir
 
 pub no-open-offer : (w : ℕ) (retired : Bool) → 64 ≤ w → open-offer 64 false ≡ open-offer w retired
 no-open-offer w retired h = closed-offer 64 false (omega arith) ∙ sym (closed-offer w retired h)
-
--- ── By parts ────────────────────────────────────────────────────────────────
-
-pub restable : {e : ScoreboardPipeline} → Valid e → Restable (e .board) (e .window) (e .tracks) (e .machine)
-restable v =
-    record {
-      board = v .parts .board;
-      window = v .parts .window;
-      tracks = v .parts .tracks;
-      machine = v .parts .machine;
-      begun = v .parts .begun;
-    }
-
-pub rested
-    : {e : ScoreboardPipeline} (v : Valid e) (target : Option ℕ) (lent : ℕ) {q r : Rest}
-    → Rests (e .board) (e .window) (e .tracks) (e .machine) (e .table .known) (e .table .held) target lent q → r ≡ q
-    → Does e (advance target lent)
-    (record { engine = engine-of (r .board) (e .window) (r .tracks) (e .machine) (r .known) (r .held) e; answer = r .answer })
-rested {e} v target lent f p =
-    subst
-    (λ (x : Rest).
-    Does e (advance target lent)
-    (record { engine = engine-of (x .board) (e .window) (x .tracks) (e .machine) (x .known) (x .held) e; answer = x .answer }))
-    (sym p)
-    (f e v)
 
 pub stops-board : (e : ScoreboardPipeline) → stops (viewEngine e) ≡ e .board .front .halted || e .board .front .faulted
 unfolding viewEngine viewBoard stops

@@ -27,23 +27,10 @@ use Rattle.checks.specs.Numbered.{numbered}
 use Rattle.cycle.proofs.Halves.{same-apart}
 use Rattle.scoreboard.specs.declared.ScoreboardPipeline.{ScoreboardPipeline}
 use Rattle.scoreboard.specs.declared.Answer.{Answer}
-use Rattle.scoreboard.specs.View.{frame-of, viewEngine, viewAnswer}
+use Rattle.scoreboard.specs.View.{frame-of, viewEngine}
 use Rattle.scoreboard.specs.Valid.{Parts, Valid}
-use Rattle.scoreboard.specs.Calls.{Does}
+use Rattle.scoreboard.specs.Calls.{Does, Tells, with-board}
 use Rattle.scoreboard.proofs.Does.{does-taken}
-
-abbrev pub with-board : Board → ScoreboardPipeline → ScoreboardPipeline
-with-board b e =
-    record {
-      board = b;
-      window = e .window;
-      tracks = e .tracks;
-      decoded = e .decoded;
-      machine = e .machine;
-      table = e .table;
-      texts = e .texts;
-      rows = e .rows;
-    }
 
 -- The places taken, by their parts.
 pub same-taken : (b r : Board) → places (r .units) ≡ places (b .units) → queue-places r ≡ queue-places b → r .gone ≡ b .gone → taken-places r ≡ taken-places b
@@ -139,7 +126,7 @@ no-offer-outside {e} v h = unclaimed (go (claimed (e .board .offer .writing)) re
 -- ── A call that answers done or a refusal ───────────────────────────────────
 
 module _ {e : ScoreboardPipeline} {c : Call} (v : Valid e) {no : ℕ} {a : Answer} {f : ScoreboardPipeline}
-    (n : numbered no ≡ refusal (viewEngine e) c) (d : viewAnswer a ≡ when-some (numbered no) done refused) where
+    (n : numbered no ≡ refusal (viewEngine e) c) (d : Tells no a) where
   pub settled-done
       : (r : ScoreboardPipeline) → no ≡ 0 → f ≡ r → ((m : List ℕ) → reply (viewEngine e) m c ≡ done) → viewEngine r ≡ run (viewEngine e) c
       → Parts r → Does e c (record { engine = f; answer = a })

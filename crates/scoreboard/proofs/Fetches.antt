@@ -22,6 +22,7 @@ use Rattle.checks.proofs.Table.{number, passed, held}
 use Rattle.registers.specs.declared.Resolved.{Resolved}
 use Rattle.registers.specs.Contracts.{ResolvedTo}
 use Rattle.registers.proofs.Queue.{fetch-refused}
+use Rattle.board.specs.declared.Board.{Board}
 use Rattle.board.specs.View.{viewBoard}
 use Rattle.scoreboard.specs.declared.ScoreboardPipeline.{ScoreboardPipeline}
 use Rattle.scoreboard.specs.View.{viewEngine}
@@ -56,13 +57,13 @@ no-number e h = sym e ∙ ap numbered h
 
 -- ── A fetch ─────────────────────────────────────────────────────────────────
 
-abbrev pub first-rows : ScoreboardPipeline → PipelineOp → List Check
-first-rows e o =
-    (4, e .board .front .«in_cycle») ∷ (8, not (e .board .front .invited)) ∷ (2, bad-info (viewOp o .info)) ∷ (9, too-many (viewOp o .info))
-    ∷ (11, eqb (e .window .next) max64) ∷ []
+abbrev pub first-rows : Board → ℕ → PipelineOp → List Check
+first-rows b next o =
+    (4, b .front .«in_cycle») ∷ (8, not (b .front .invited)) ∷ (2, bad-info (viewOp o .info)) ∷ (9, too-many (viewOp o .info))
+    ∷ (11, eqb next max64) ∷ []
 
-abbrev pub last-rows : ScoreboardPipeline → Resolved → ℕ → List Check
-last-rows e x lent = (10, not (x .fits)) ∷ (13, ltb lent (e .window .history * 200)) ∷ []
+abbrev pub last-rows : ℕ → Resolved → ℕ → List Check
+last-rows history x lent = (10, not (x .fits)) ∷ (13, ltb lent (history * 200)) ∷ []
 
 twice-not : (a b : Bool) → a ≡ not b → not a ≡ b
 twice-not a true h = ap not h
@@ -72,17 +73,18 @@ pub yes-of-not : (a : Bool) → not a ≡ false → a ≡ true
 yes-of-not true i = refl
 yes-of-not false i = sym i
 
+pub operation-fine : (b : Board) (next : ℕ) (o : PipelineOp) → first-of (first-rows b next o) ≡ none
+    → (bad-info (viewOp o .info) ≡ false) × (too-many (viewOp o .info) ≡ false)
+operation-fine b next o h =
+    let a = row-passes 4 _ h in let s = row-passes 8 _ (a .1) in let c = row-passes 2 _ (s .1) in let d = row-passes 9 _ (c .1) in (c .0, d .0)
+
 module _ {e : ScoreboardPipeline} (v : Valid e) (o : PipelineOp) (lent : ℕ) where
-  pub refused-first : {n : ℕ} → first-of (first-rows e o) ≡ some n → refusal (viewEngine e) (fetch (viewOp o) lent) ≡ some n
+  pub refused-first : {n : ℕ} → first-of (first-rows (e .board) (e .window .next) o) ≡ some n → refusal (viewEngine e) (fetch (viewOp o) lent) ≡ some n
   unfolding refusal checks viewEngine viewBoard
   refused-first h =
-      first-some (first-rows e o) ((10, ltb 256 (names-with (viewEngine e) (viewOp o .info))) ∷ (13, short-memory (viewEngine e) lent) ∷ []) h
+      first-some (first-rows (e .board) (e .window .next) o) ((10, ltb 256 (names-with (viewEngine e) (viewOp o .info))) ∷ (13, short-memory (viewEngine e) lent) ∷ []) h
 
-  pub operation-fine : first-of (first-rows e o) ≡ none → (bad-info (viewOp o .info) ≡ false) × (too-many (viewOp o .info) ≡ false)
-  operation-fine h =
-      let a = row-passes 4 _ h in let b = row-passes 8 _ (a .1) in let c = row-passes 2 _ (b .1) in let d = row-passes 9 _ (c .1) in (c .0, d .0)
-
-  module _ {x : Resolved} (z : ResolvedTo (e .table) (viewOp o .info) x) (h : first-of (first-rows e o) ≡ none) where
+  module _ {x : Resolved} (z : ResolvedTo (e .table) (viewOp o .info) x) (h : first-of (first-rows (e .board) (e .window .next) o) ≡ none) where
     fits-is : not (x .fits) ≡ ltb 256 (names-with (viewEngine e) (viewOp o .info))
     unfolding viewEngine viewBoard
     fits-is =
@@ -93,10 +95,10 @@ module _ {e : ScoreboardPipeline} (v : Valid e) (o : PipelineOp) (lent : ℕ) wh
     unfolding short-memory viewEngine viewBoard viewMachine
     room-is = ap (λ n. ltb lent (n * 200)) (v .parts .history)
 
-    pub second : refusal (viewEngine e) (fetch (viewOp o) lent) ≡ first-of (last-rows e x lent)
+    pub second : refusal (viewEngine e) (fetch (viewOp o) lent) ≡ first-of (last-rows (e .window .history) x lent)
     unfolding refusal checks viewEngine viewBoard
     second =
-        first-none (first-rows e o) ((10, ltb 256 (names-with (viewEngine e) (viewOp o .info))) ∷ (13, short-memory (viewEngine e) lent) ∷ []) h
+        first-none (first-rows (e .board) (e .window .next) o) ((10, ltb 256 (names-with (viewEngine e) (viewOp o .info))) ∷ (13, short-memory (viewEngine e) lent) ∷ []) h
         ∙ ap₂ (λ a c. first-of ((10, a) ∷ (13, c) ∷ [])) (sym fits-is) (sym room-is)
 
     below-next : (e .window .next ≡ max64 → ⊥) → e .window .next < max64
@@ -105,7 +107,7 @@ module _ {e : ScoreboardPipeline} (v : Valid e) (o : PipelineOp) (lent : ℕ) wh
         ⊎-elim (λ (l : e .window .next < max64). l) (λ (l : max64 ≤ e .window .next). absurd (n (omega (arith, v .invariant .next-few))))
         (lt-or-ge (e .window .next) max64)
 
-    module _ (g : first-of (last-rows e x lent) ≡ none) where
+    module _ (g : first-of (last-rows (e .window .history) x lent) ≡ none) where
       pub all-fit : x .fits ≡ true
       all-fit = yes-of-not (x .fits) (row-passes 10 _ g .0)
 

@@ -3,9 +3,11 @@ pub mod Fits
 pub mod Legends
 pub mod Answers
 pub mod Boards
+pub mod Loops
 pub mod Naming
 pub mod Accepting
 pub mod Fetches
+pub mod Taking
 pub mod Dropping
 pub mod Fresh
 pub mod Recorded

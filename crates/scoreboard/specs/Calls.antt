@@ -2,14 +2,17 @@
 use Prim.Native.Nat.{ℕ}
 use mathlib.Core.Path.{_≡_}
 use mathlib.Core.Option.{Option, none, some}
-use mathlib.Core.List.{List, []}
-use lib.ListN.{length}
+use mathlib.Core.List.{List}
 use Rattle.laws.specs.Optional.{when-some}
 use Rattle.model.specs.Config.{PipelineShape}
 use Rattle.model.specs.State.{new}
-use Rattle.model.specs.Calls.{Call, make-refusal, refused, done, refusal, answer, after}
+use Rattle.model.specs.Calls.{Call, retire, make-refusal, refused, done, refusal, answer, after}
+use Rattle.checks.specs.Numbered.{numbered}
+use Rattle.board.specs.declared.Board.{Board}
 use Rattle.scoreboard.specs.declared.ScoreboardPipeline.{ScoreboardPipeline}
+use Rattle.scoreboard.specs.declared.Answer.{Answer}
 use Rattle.scoreboard.specs.declared.Next.{Next}
+use Rattle.scoreboard.specs.declared.Settled.{Settled}
 use Rattle.scoreboard.specs.View.{viewEngine, viewAnswer}
 use Rattle.scoreboard.specs.Valid.{Valid}
 
@@ -25,3 +28,28 @@ pub record Does (e : ScoreboardPipeline) (c : Call) (r : Next) : Type 0 where
   pub engine : viewEngine (r .engine) ≡ after (viewEngine e) c
   pub valid : Valid (r .engine)
   pub refused : (n : ℕ) → refusal (viewEngine e) c ≡ some n → r .engine ≡ e
+
+-- Done where the number is 0, else a refusal with it.
+abbrev pub Tells : ℕ → Answer → Type 0
+Tells n a = viewAnswer a ≡ when-some (numbered n) done refused
+
+-- ── By the board ────────────────────────────────────────────────────────────
+
+abbrev pub with-board : Board → ScoreboardPipeline → ScoreboardPipeline
+with-board b e =
+    record {
+      board = b;
+      window = e .window;
+      tracks = e .tracks;
+      decoded = e .decoded;
+      machine = e .machine;
+      table = e .table;
+      texts = e .texts;
+      rows = e .rows;
+    }
+
+-- It is the retire of every engine with this board.
+abbrev pub Retires : Board → Settled → Type 0
+Retires b r =
+    (e : ScoreboardPipeline) → Valid (with-board b e) → (a : Answer) → Tells (r .no) a
+    → Does (with-board b e) retire (record { engine = with-board (r .board) e; answer = a })

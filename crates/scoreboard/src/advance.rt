@@ -77,7 +77,7 @@ pub struct Rest {
 // The rest of a cycle. `writing` and `retired` tell of the offer; `next`, `rows` and `history` are the window. It has two call sites, so that it
 // stays a call, and takes numbers rather than a window, so that less is copied to it (docs/DECISIONS.md, 57).
 // model: Calls.after, Calls.answer and Calls.memory-after, of advance
-fn advanced(
+pub fn advanced(
     board: Board,
     writing: usize,
     retired: bool,

@@ -40,7 +40,7 @@ ghost use Rattle.board.specs.View.{BoardOk};
 ghost use Rattle.scoreboard.specs.View.{viewEngine, viewOffer, viewAnswer};
 ghost use Rattle.scoreboard.specs.Valid.{Parts, Valid};
 ghost use Rattle.scoreboard.specs.Answers.{new-state, offer-with, Offers, Resolves, Begins};
-ghost use Rattle.scoreboard.specs.Calls.{Makes, Does};
+ghost use Rattle.scoreboard.specs.Calls.{Makes, Does, Retires};
 
 // What a cycle works on comes first, then what a fetch writes. `window.next` is the number of the next operation, and the id of its row.
 pub struct ScoreboardPipeline {
@@ -111,7 +111,7 @@ fn new_engine(machine: Machine, entry: u64) -> ScoreboardPipeline
 }
 
 // Done, or refused with a number that is not 0.
-fn done_or(no: u8) -> Answer
+pub fn done_or(no: u8) -> Answer
     ensures { λ r. ⌜ viewAnswer r ≡ when-some (numbered no) done refused ⌝ }
 {
     if no == 0 {
@@ -139,7 +139,7 @@ fn offer_view(u: Unit, d: Decoded) -> OfferView
 }
 
 // model: Calls.reply, of start
-fn start_answer(units: Units, decoded: DecodedPool, writing: usize) -> Answer
+pub fn start_answer(units: Units, decoded: DecodedPool, writing: usize) -> Answer
     requires { ⌜ UnitsOk units ⌝ }
     requires { ⌜ DecodedPoolOk decoded ⌝ }
     requires { ⌜ (writing < 64 → writing < units .len) ⌝ }
@@ -194,6 +194,30 @@ fn resolve_answer(units: Units, decoded: DecodedPool, writing: usize, actual_nex
     }
 }
 
+// The board after a retire, and the number that refuses it.
+pub struct Settled {
+    pub board: Board,
+    pub no: u8,
+}
+
+// model: Calls.refusal, of retire; Write.retire
+pub fn retired(board: Board) -> Settled
+    requires { ⌜ BoardOk board ⌝ }
+    ensures { λ r. ⌜ Retires board r ⌝ }
+{
+    let at = board.offer.writing;
+    let no = checks::retire(board.front.in_cycle, at, board.offer.retired);
+    if no != 0 {
+        return Settled { board, no };
+    }
+    let units = board.units;
+    let u = units.items[at];
+    Settled {
+        board: board.retire(u.redirects),
+        no,
+    }
+}
+
 impl ScoreboardPipeline {
     // A new engine; beside a refusal stands one of no use.
     // model: Calls.make and Calls.make-memory
@@ -242,17 +266,12 @@ impl ScoreboardPipeline {
         ensures { λ r. ⌜ Does self retire r ⌝ }
     {
         let board = self.board;
-        let at = board.offer.writing;
-        let no = checks::retire(board.front.in_cycle, at, board.offer.retired);
-        if no == 0 {
-            let units = board.units;
-            let u = units.items[at];
-            let after = board.retire(u.redirects);
-            self.board = after;
-        }
+        let r = retired(board);
+        let after = r.board;
+        self.board = after;
         Next {
             engine: self,
-            answer: done_or(no),
+            answer: done_or(r.no),
         }
     }
 

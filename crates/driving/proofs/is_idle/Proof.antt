@@ -8,10 +8,10 @@ any-busy-requires : tie.Need-any-busy-requires
 any-busy-requires c κs = search needs
 
 returns : tie.Need-returns
-returns c = queue-empty _ (c .before .before .before .before .before .pre) (c .before .if1 .taken) _ (c .any-busy .ensures)
+returns c = queue-empty _ (c .before .before .before .before .pre) (c .before .if1 .taken) _ (c .any-busy .ensures)
 
 returns-2 : tie.Need-returns-2
-returns-2 c = queue-taken _ (c .before .before .before .before .pre) (c .if1 .left)
+returns-2 c = queue-taken _ (c .before .before .before .pre) (c .if1 .left)
 
 pub is-idle-spec : {M : Type 1} → statement M
 is-idle-spec = tie.close (tie.spec any-busy-requires returns returns-2)

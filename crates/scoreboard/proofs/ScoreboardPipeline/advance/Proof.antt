@@ -5,7 +5,8 @@ use Rattle.model.specs.Calls.{advance, memory-after}
 use Rattle.op.specs.View.{viewMaybeNumber}
 use Rattle.scoreboard.specs.View.{viewEngine}
 use Rattle.scoreboard.proofs.Does.{same-size}
-use Rattle.scoreboard.proofs.Advancing.{no-open-offer, restable, rested}
+use Rattle.scoreboard.proofs.Advancing.{no-open-offer}
+use Rattle.scoreboard.proofs.Loops.{restable, does-advance}
 use Rattle.scoreboard.proofs.ScoreboardPipeline.advance.Statement.{statement}
 use Rattle.scoreboard.proofs.ScoreboardPipeline.advance.Tie as tie
 
@@ -46,8 +47,8 @@ returns c =
     let t = viewMaybeNumber (s .args .redirect) in
     let n = length (s .args .cells .now) in (
       ⊎-elim
-          (λ w. rested (s .pre) t n (w .2 .ensures .0) (w .6))
-          (λ w. rested (s .pre) t n (w .2 .ensures .0) (w .6))
+          (λ w. does-advance (s .pre) {target = t} {lent = n} (w .2 .ensures .0) (w .6))
+          (λ w. does-advance (s .pre) {target = t} {lent = n} (w .2 .ensures .0) (w .6))
           (j .if1 .came),
       cells-left j,
     )

@@ -1,78 +1,153 @@
-use mathlib.Core.Path.{refl, _∙_}
+use mathlib.Core.Path.{_≡_, refl, sym, subst, _∙_}
+use mathlib.Core.Logic.{⊎-elim}
+use native.Mathlib.Omega.{arith}
 use lib.ListN.{length}
-use Rattle.model.specs.Calls.{run, reply}
-use Rattle.scoreboard.specs.View.{viewAnswer}
-use Rattle.scoreboard.proofs.Does.{does-refused, does-taken}
-use Rattle.scoreboard.proofs.Fetches.{some-number, no-number, refused-first, operation-fine, second, all-fit, fetchable, memory-stays, memory-opens}
 use borrow.Author.Needs.{needs}
+use Rattle.model.specs.Calls.{fetch, memory-after}
+use Rattle.op.specs.View.{viewOp}
+use Rattle.scoreboard.specs.declared.ScoreboardPipeline.{ScoreboardPipeline}
+use Rattle.scoreboard.specs.View.{viewEngine}
+use Rattle.scoreboard.specs.Calls.{Does}
+use Rattle.scoreboard.specs.Taking.{Given, given, left-engine, Takes}
+use Rattle.scoreboard.proofs.Does.{same-size}
+use Rattle.scoreboard.proofs.Loops.{holding, takable, does-fetch, slot-there}
+use Rattle.scoreboard.proofs.Taking.{took}
 use Rattle.scoreboard.proofs.ScoreboardPipeline.fetched.Statement.{statement}
 use Rattle.scoreboard.proofs.ScoreboardPipeline.fetched.Tie as tie
 
-fetch-requires : tie.Need-fetch-requires
-fetch-requires c κs = search needs
+abbrev start : tie.After-latency → tie.Start
+start c = c .before .before .before .before .before .before .before .before
+
+-- What the fetch is given.
+abbrev gives : tie.After-latency → Given
+gives c =
+    let e = start c .args .self in
+    given (e .board) (e .window) (e .tracks) (e .decoded) (e .table) (e .machine .«instruction_bytes») (c .latency .result) (start c .args .op)
+
+latency-requires : tie.Need-latency-requires
+latency-requires c κs = search needs
+
+enum-known-fixed : tie.Need-enum-known-fixed
+enum-known-fixed c = search needs
+
+taken-requires : tie.Need-taken-requires
+taken-requires c κs =
+    let f = c .before .before in
+    let l = f .before .before in
+    takable (start l .pre) (f .fixed .given .1) (l .latency .ensures)
+
+enum-told : tie.Need-enum-told
+enum-told c = search needs
+
+taken-requires-2 : tie.Need-taken-requires-2
+taken-requires-2 c κs =
+    let l = c .before .before .before in
+    takable (start l .pre) (c .before .enum-told .given .1) (l .latency .ensures)
+
+-- What either call hands back.
+takes : (j : tie.At-match-came) → Takes (gives (j .before)) (length (start (j .before) .args .cells .now)) (j .match .r)
+takes j =
+    let l = j .before in
+    ⊎-elim
+    (λ w. took (start l .args .self) (w .1 .given .1) (w .4 .ensures .0) (w .8))
+    (λ w. took (start l .args .self) (w .1 .given .1) (w .3 .ensures .0) (w .7))
+    (j .match .came)
+
+-- The cells after it.
+cells-left : (j : tie.At-match-came)
+    → j .match .cells
+    ≡ memory-after (viewEngine (start (j .before) .args .self))
+    (fetch (viewOp (start (j .before) .args .op)) (length (start (j .before) .args .cells .now)))
+    (start (j .before) .args .cells .now)
+cells-left j =
+    let l = j .before in
+    let s = start l in
+    ⊎-elim
+    (λ w. w .7 ∙ w .4 .ensures .1 (s .args .self) (holding (s .pre) (w .1 .given .1) (l .latency .ensures)))
+    (λ w. w .6 ∙ w .3 .ensures .1 (s .args .self) (holding (s .pre) (w .1 .given .1) (l .latency .ensures)))
+    (j .match .came)
+
+slot-requires : tie.Need-slot-requires
+slot-requires c κs = start (c .before .before .before .before) .pre .parts .window
+
+of-requires : tie.Need-of-requires
+of-requires c κs = search needs
+
+row-of-requires : tie.Need-row-of-requires
+row-of-requires c κs = let t = c .before .before .before .before in takes (t .before) .good (t .if1 .taken)
+
+mul-t : tie.Need-mul-t
+mul-t c = let t = c .before .before .before .before .before in omega (arith, takes (t .before) .place (t .if1 .taken))
+
+element-set-from-t : tie.Need-element-set-from-t
+element-set-from-t c = let t = c .before .before .before .before .before in takes (t .before) .place (t .if1 .taken)
+
+mul-x : tie.Need-mul-x
+mul-x c =
+    let t = c .before .before .before .before .before in
+    omega (arith, slot-there (start (t .before .before) .pre .parts .window) (c .before .before .slot .ensures))
+
+element-set-from-x : tie.Need-element-set-from-x
+element-set-from-x c =
+    let t = c .before .before .before .before .before in
+    slot-there (start (t .before .before) .pre .parts .window) (c .before .before .slot .ensures)
+
+opened-requires : tie.Need-opened-requires
+opened-requires c κs =
+    let t = c .before .before .before .before .before in
+    (start (t .before .before) .pre .parts .window, takes (t .before) .next (t .if1 .taken))
+
+done-or-requires : tie.Need-done-or-requires
+done-or-requires c κs = search needs
+
+same-length : tie.Need-same-length
+same-length c =
+    let j = c .before .before .before .before .before .before in
+    let s = start (j .before) in
+    same-size (viewEngine (s .args .self)) (fetch (viewOp (s .args .op)) (length (s .args .cells .now))) (s .args .cells .now) (cells-left j)
 
 returns : tie.Need-returns
 returns c =
-    let s = c .before .before .before in
-    let h = refused-first (s .pre) (s .args .op) (length (s .args .cells .now)) (some-number (c .before .fetch .ensures) (c .if1 .taken)) in
-    (does-refused (s .pre) h, memory-stays (s .pre) (s .args .op) (s .args .cells .now) h)
-
-resolve-requires : tie.Need-resolve-requires
-resolve-requires c κs =
-    let s = c .before .before .before .before in
-    let f = operation-fine (s .pre) (s .args .op) 0 (no-number (c .before .before .fetch .ensures) (c .before .if1 .left)) in
-    (s .pre .parts .table, (f .0, f .1))
-
-fetch-names-requires : tie.Need-fetch-names-requires
-fetch-names-requires c κs = c .before .before .before .before .before .pre .parts .window .most
-
-returns-2 : tie.Need-returns-2
-returns-2 c =
-    let s = c .before .before .before .before .before .before .before in
-    let x = c .before .before in
-    let h =
-    second (s .pre) (s .args .op) (length (s .args .cells .now)) (x .resolve .ensures) (no-number (x .before .before .before .fetch .ensures) (x .before .before .if1 .left))
-    ∙ some-number (c .before .fetch-names .ensures) (c .if2 .taken)
-    in
-    (does-refused (s .pre) h, memory-stays (s .pre) (s .args .op) (s .args .cells .now) h)
-
-accepted-requires : tie.Need-accepted-requires
-accepted-requires c κs =
-    let s = c .before .before .before .before .before .before .before .before in
-    let x = c .before .before .before in
-    let h = no-number (x .before .before .before .fetch .ensures) (x .before .before .if1 .left) in
-    let g = no-number (c .before .before .fetch-names .ensures) (c .before .if2 .left) in (
-      s .pre,
-      (
-        x .resolve .ensures,
-        (all-fit (s .pre) (s .args .op) (length (s .args .cells .now)) (x .resolve .ensures) h g, fetchable (s .pre) (s .args .op) (length (s .args .cells .now)) (x .resolve .ensures) h g),
-      ),
+    let k = c .before .before .before .before .before in
+    let j = k .before in
+    let s = start (j .before) in
+    let h = holding (s .pre) refl (j .before .latency .ensures) in
+    let r = j .match .r in
+    let a = c .done-or .result in (
+      ⊎-elim
+          (λ w.
+          subst
+          (λ (f : ScoreboardPipeline).
+          Does (s .args .self) (fetch (viewOp (s .args .op)) (length (s .args .cells .now))) (record { engine = left-engine r (f .window) f; answer = a }))
+          (sym (w .7))
+          (does-fetch (takes j) (w .0 .taken) h (w .6 .ensures .is) (w .3 .ensures .is) (w .4 .ensures) (w .5 .ensures .is) (c .done-or .ensures)))
+          (λ w.
+          subst
+          (λ (f : ScoreboardPipeline).
+          Does (s .args .self) (fetch (viewOp (s .args .op)) (length (s .args .cells .now))) (record { engine = left-engine r (f .window) f; answer = a }))
+          (sym (w .1))
+          (takes j .refuses (w .0 .left) (s .args .self) h a (c .done-or .ensures)))
+          (k .if1 .came),
+      cells-left j,
     )
-
-same-length : tie.Need-same-length
-same-length c = search needs
-
-returns-3 : tie.Need-returns-3
-unfolding run reply viewAnswer
-returns-3 c =
-    let s = c .before .before .before .before .before .before .before .before .before .before .before in
-    let x = c .before .before .before .before .before .before in
-    let a = c .before .before .accepted .ensures in
-    let h =
-    second (s .pre) (s .args .op) (length (s .args .cells .now)) (x .resolve .ensures) (no-number (x .before .before .before .fetch .ensures) (x .before .before .if1 .left))
-    ∙ no-number (c .before .before .before .before .before .fetch-names .ensures) (c .before .before .before .before .if2 .left)
-    in
-    (does-taken (s .pre) h (λ m. refl) (a .0 .is) (a .0 .parts), a .1 ∙ memory-opens (s .pre) (s .args .op) (s .args .cells .now) h)
 
 pub fetched-spec : {M : Type 1} → statement M
 fetched-spec =
     tie.close
     (tie.spec
-    fetch-requires
-    returns
-    resolve-requires
-    fetch-names-requires
-    returns-2
-    accepted-requires
+    latency-requires
+    enum-known-fixed
+    taken-requires
+    enum-told
+    taken-requires-2
+    slot-requires
+    of-requires
+    row-of-requires
+    mul-t
+    element-set-from-t
+    mul-x
+    element-set-from-x
+    opened-requires
+    done-or-requires
     same-length
-    returns-3)
+    returns)

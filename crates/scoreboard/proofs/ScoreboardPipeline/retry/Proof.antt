@@ -13,9 +13,10 @@ use Rattle.op.specs.View.{viewText}
 use Rattle.checks.specs.Numbered.{numbered}
 use Rattle.board.specs.View.{viewBoard}
 use Rattle.scoreboard.specs.View.{frame-of, viewEngine}
+use Rattle.scoreboard.specs.Calls.{with-board}
 use Rattle.scoreboard.proofs.Answers.{offer-there, third-no}
 use Rattle.scoreboard.proofs.Fits.{short-text}
-use Rattle.scoreboard.proofs.Boards.{with-board, still-parts, settled-done, settled-refused}
+use Rattle.scoreboard.proofs.Boards.{still-parts, settled-done, settled-refused}
 use Rattle.scoreboard.proofs.ScoreboardPipeline.retry.Statement.{statement}
 use Rattle.scoreboard.proofs.ScoreboardPipeline.retry.Tie as tie
 
