@@ -122,6 +122,8 @@ struct Case {
     name: &'static str,
     machine: Machine,
     program: Vec<Given>,
+    /// Is there a call of another kind in each cycle?
+    other: bool,
 }
 
 fn cases() -> Vec<Case> {
@@ -129,9 +131,10 @@ fn cases() -> Vec<Case> {
         name,
         machine,
         program,
+        other: false,
     };
     let alu = Class::Alu;
-    vec![
+    let mut cases = vec![
         case("2 units, dependent", machine(2, 256), dependent(alu, 8)),
         case("2 units, independent", machine(2, 256), independent(16)),
         case("16 kinds, 64 units, mixed", mixed_machine(), mixed()),
@@ -145,17 +148,27 @@ fn cases() -> Vec<Case> {
         case("64 units, independent", machine(64, 256), independent(16)),
         case("8 names, dependent", machine(2, 256), dependent(alu, 8)),
         case("256 names, dependent", machine(2, 256), dependent(alu, 256)),
-    ]
+    ];
+    cases.push(Case {
+        name: "2 units, dependent, overlap set in each cycle",
+        machine: machine(2, 256),
+        program: dependent(alu, 8),
+        other: true,
+    });
+    cases
 }
 
-/// So many cycles: start, retire what is offered, advance, fetch when invited.
-pub fn run(machine: &Machine, program: &[Given], cycles: u64) -> Vec<Call> {
+/// So many cycles: start, retire what is offered, advance, fetch when invited; where asked for, overlap set again before each.
+pub fn run(machine: &Machine, program: &[Given], other: bool, cycles: u64) -> Vec<Call> {
     let lent = machine.lent;
     let mut engine = bare::engine(machine);
     engine.set_enabled(true);
     let mut calls = vec![Call::Overlap(true)];
     let mut program = program.iter().cycle();
     for _ in 0..cycles {
+        if other {
+            calls.push(Call::Overlap(true));
+        }
         calls.push(Call::Start);
         if let Some(op) = engine.start_cycle() {
             engine.retire(&op);
@@ -206,7 +219,7 @@ pub fn bench(ours: Ours, cycles: u64, rounds: u64) -> ExitCode {
 }
 
 fn measure(ours: Ours, case: &Case, cycles: u64, rounds: u64) {
-    let calls = run(&case.machine, &case.program, cycles);
+    let calls = run(&case.machine, &case.program, case.other, cycles);
     let list = encode::list(&case.machine, &calls);
     let totals = totals(&list).expect("of its form");
     let mut cells = vec![0; totals.lent as usize];

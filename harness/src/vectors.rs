@@ -186,7 +186,7 @@ fn forms() -> Vec<Vector> {
 /// More fetches than a history of 256 rows holds: the oldest rows go.
 fn rows() -> Vector {
     let machine = bench::machine(2, 256);
-    let mut calls = bench::run(&machine, &bench::independent(16), 520);
+    let mut calls = bench::run(&machine, &bench::independent(16), false, 520);
     for at in [0, 1, 254, 255, 256] {
         calls.push(Call::View(View::TimelineRow(at)));
         calls.extend([0, 3, 4, 5, 6].map(|cell| Call::Cell(at, cell, machine.lent)));

@@ -15,7 +15,7 @@ use Rattle.answers.specs.Size.{size, block}
 use Rattle.answers.proofs.Lengths.{pad-length}
 use Rattle.answers.proofs.Sizes.{refused-fits, block-laid}
 use Rattle.calls.specs.Play.{all-sizes, refused-blocks}
-use Rattle.calls.proofs.Scans.{from, good}
+use Rattle.calls.specs.Steps.{from, good, Laying}
 
 splice-none : (p : ℕ) (m : List ℕ) → splice p [] m ≡ m
 unfolding splice overlay
@@ -23,18 +23,11 @@ splice-none zero m = refl
 splice-none (suc p) [] = refl
 splice-none (suc p) (x ∷ m) = ap (λ t. x ∷ t) (splice-none p m)
 
--- `all` is to stand from byte 17 on; `rest` of it is left for b on.
-pub record Laying (l all rest out₀ out : List ℕ) (at b : ℕ) : Type 0 where
-  pub formed : good l at ≡ true
-  pub room : b + all-sizes (from l at) ≤ length out
-  pub same : length out ≡ length out₀
-  pub is : splice b rest out ≡ splice 17 all out₀
-
-pub laying-first : (l all out : List ℕ) → good l 555 ≡ true → 17 + all-sizes (from l 555) ≤ length out → Laying l all all out out 555 17
+pub laying-first : (l all out : List ℕ) {at b : ℕ} → good l at ≡ true → b + all-sizes (from l at) ≤ length out → Laying l b all all out out at b
 laying-first l all out g h = record { formed = g; room = h; same = refl; is = refl }
 
-module _ {l all rest out₀ out : List ℕ} {at b : ℕ} (y : Laying l all rest out₀ out at b) where
-  pub laying-last : rest ≡ [] → out ≡ splice 17 all out₀
+module _ {l all rest out₀ out : List ℕ} {b₀ at b : ℕ} (y : Laying l b₀ all rest out₀ out at b) where
+  pub laying-last : rest ≡ [] → out ≡ splice b₀ all out₀
   laying-last e = sym (splice-none b out) ∙ ap (λ t. splice b t out) (sym e) ∙ y .is
 
   module _ (h : at < length l) where
@@ -61,7 +54,7 @@ module _ {l all rest out₀ out : List ℕ} {at b : ℕ} (y : Laying l all rest 
     -- An answer is laid over as many bytes of 0 as it takes.
     pub laying-next : {n k : ℕ} {filled out' more : List ℕ} (a : Answer) → n ≡ size (call-at l at) → k ≡ size-at l at
         → length (encode a) ≤ size (call-at l at) → rest ≡ block (call-at l at) a ++ more → filled ≡ splice b (replicate n 0) out
-        → out' ≡ splice b (encode a) filled → Laying l all more out₀ out' (at + k) (b + n)
+        → out' ≡ splice b (encode a) filled → Laying l b₀ all more out₀ out' (at + k) (b + n)
     unfolding block
     laying-next {n} {k} {filled} {out'} {more} a p q fits r f o =
         let c = call-at l at in
@@ -84,7 +77,7 @@ module _ {l all rest out₀ out : List ℕ} {at b : ℕ} (y : Laying l all rest 
 -- ── Where making was refused ────────────────────────────────────────────────
 
 abbrev pub Refusing : List ℕ → ℕ → List ℕ → List ℕ → ℕ → ℕ → Type 0
-Refusing l x out₀ out at b = Laying l (refused-blocks x (from l 555)) (refused-blocks x (from l at)) out₀ out at b
+Refusing l x out₀ out at b = Laying l 17 (refused-blocks x (from l 555)) (refused-blocks x (from l at)) out₀ out at b
 
 module _ (x : ℕ) {l out₀ out : List ℕ} {at b : ℕ} (y : Refusing l x out₀ out at b) where
   pub refusing-next : {n k : ℕ} {filled : List ℕ} → at < length l → n ≡ size (call-at l at) → k ≡ size-at l at

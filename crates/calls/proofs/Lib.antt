@@ -7,5 +7,6 @@ pub mod Tells
 pub mod Scans
 pub mod Lays
 pub mod Plays
+pub mod Cycling
 pub mod Scripts
 pub mod Outcomes

@@ -29,6 +29,8 @@ use Rattle.model.specs.Calls.{
   view,
   cell,
   text,
+  done,
+  refused,
   refusal,
   run,
   sets,
@@ -37,9 +39,13 @@ use Rattle.model.specs.Calls.{
   memory-after,
 }
 use Rattle.scoreboard.specs.declared.ScoreboardPipeline.{ScoreboardPipeline}
-use Rattle.scoreboard.specs.View.{viewEngine}
+use Rattle.scoreboard.specs.declared.Answer.{Answer}
+use Rattle.scoreboard.specs.declared.Next.{Next}
+use Rattle.scoreboard.specs.View.{viewEngine, viewAnswer}
 use Rattle.scoreboard.specs.Valid.{Valid}
+use Rattle.scoreboard.specs.Calls.{Does, Tells}
 use Rattle.scoreboard.proofs.Does.{same-size}
+use Rattle.checks.specs.Numbered.{numbered}
 use Rattle.decoding.specs.Bytes.{byte-at}
 use Rattle.decoding.specs.Calls.{size-at, text-call, call-at}
 use Rattle.decoding.proofs.Script.{calls-end}
@@ -47,10 +53,9 @@ use Rattle.answers.specs.Encode.{encode}
 use Rattle.answers.specs.Size.{size}
 use Rattle.answers.proofs.Sizes.{answer-fits}
 use Rattle.calls.specs.Play.{lent-of, lend, cells-after, block-of, blocks, cells-played, most-lent}
-use Rattle.calls.specs.Steps.{Playable, AllPlayable, Leaves}
+use Rattle.calls.specs.Steps.{from, Playable, PlayableFrom, Leaves, Played}
 use Rattle.calls.proofs.Which.{told, told-below, told-text}
-use Rattle.calls.proofs.Scans.{from}
-use Rattle.calls.proofs.Lays.{Laying, laying-first, laying-last, laying-formed, laying-call, laying-filled, laying-next}
+use Rattle.calls.proofs.Lays.{laying-first, laying-last, laying-formed, laying-call, laying-filled, laying-next}
 
 -- ── A call that only shows ──────────────────────────────────────────────────
 
@@ -143,25 +148,41 @@ step-shown {c} {e = e} {m = m} h v p q o =
       laid = o;
     }
 
+-- A number as an answer takes one byte.
+pub number-room : (n : ℕ) (a : Answer) (b : ℕ) (out : List ℕ) → Tells n a → b < length out → b + length (encode (viewAnswer a)) ≤ length out
+unfolding encode
+number-room n a b out t h = omega (arith, ap (λ x. length (encode x)) t, one (numbered n))
+  where
+    one : (o : Option ℕ) → length (encode (when-some o done refused)) ≡ 1
+    one none = refl
+    one (some n) = refl
+
+-- A call of the engine, whose answer is laid.
+module _ {c : Call} {e : ScoreboardPipeline} {r : Next} (d : Does e c r) where
+  pub answer-room : (b : ℕ) (out : List ℕ) → b + size c ≤ length out → b + length (encode (viewAnswer (r .answer))) ≤ length out
+  answer-room b out h = omega (arith, ap (λ a. length (encode a)) (d .answer []), answer-fits (viewEngine e) [] c)
+
+  pub step-done : {b : ℕ} {m m' out out' : List ℕ} → m' ≡ cells-after (viewEngine e) c m → out' ≡ splice b (encode (viewAnswer (r .answer))) out
+      → Step c b e m out (r .engine) m' out'
+  step-done {b} {m} {out = out} p q =
+      record {
+        leaves = record { engine = d .engine; valid = d .valid };
+        memory = p;
+        laid = q ∙ ap (λ a. splice b (encode a) out) (d .answer (take (lent-of c) m));
+      }
+
 -- ── All calls ───────────────────────────────────────────────────────────────
 
-pub record Played (l m₀ out₀ : List ℕ) (s₀ : State) (m out : List ℕ) (e : ScoreboardPipeline) (at b : ℕ) : Type 0 where
-  pub valid : Valid e
-  pub lent : most-lent (from l at) ≤ length m
-  pub size : length m ≡ length m₀
-  pub memory : cells-played (viewEngine e) m (from l at) ≡ cells-played s₀ m₀ (from l 555)
-  pub laid : Laying l (blocks s₀ m₀ (from l 555)) (blocks (viewEngine e) m (from l at)) out₀ out at b
-
-pub played-first : {l m out : List ℕ} {e : ScoreboardPipeline} → Valid e → AllPlayable l m out → Played l m out (viewEngine e) m out e 555 17
+pub played-first : {l m out : List ℕ} {at b : ℕ} {e : ScoreboardPipeline} → Valid e → PlayableFrom l at m b out → Played l at b (viewEngine e) m out e at b m out
 played-first v a =
     record { valid = v; lent = a .lent; size = refl; memory = refl; laid = laying-first _ _ _ (a .formed) (a .room) }
 
-module _ {l m₀ out₀ m out : List ℕ} {s₀ : State} {e : ScoreboardPipeline} {at b : ℕ} (y : Played l m₀ out₀ s₀ m out e at b) where
-  pub played-cells : length l ≤ at → m ≡ cells-played s₀ m₀ (from l 555)
+module _ {l m₀ out₀ m out : List ℕ} {at₀ b₀ at b : ℕ} {s₀ : State} {e : ScoreboardPipeline} (y : Played l at₀ b₀ s₀ m₀ out₀ e at b m out) where
+  pub played-cells : length l ≤ at → m ≡ cells-played s₀ m₀ (from l at₀)
   unfolding cells-played
   played-cells h = sym (ap (cells-played (viewEngine e) m) (calls-end l (length l) h)) ∙ y .memory
 
-  pub played-out : length l ≤ at → out ≡ splice 17 (blocks s₀ m₀ (from l 555)) out₀
+  pub played-out : length l ≤ at → out ≡ splice b₀ (blocks s₀ m₀ (from l at₀)) out₀
   unfolding blocks
   played-out h = laying-last (y .laid) (ap (blocks (viewEngine e) m) (calls-end l (length l) h))
 
@@ -179,7 +200,7 @@ module _ {l m₀ out₀ m out : List ℕ} {s₀ : State} {e : ScoreboardPipeline
         }
 
     pub played-next : {k : ℕ} {e' : ScoreboardPipeline} {m' out' : List ℕ} → k ≡ size-at l at → Step (call-at l at) b e m filled e' m' out'
-        → Played l m₀ out₀ s₀ m' out' e' (at + k) (b + n)
+        → Played l at₀ b₀ s₀ m₀ out₀ e' (at + k) (b + n) m' out'
     unfolding blocks block-of cells-played
     played-next {k} {e'} {m'} q z =
         let c = call-at l at in
@@ -200,3 +221,19 @@ module _ {l m₀ out₀ m out : List ℕ} {s₀ : State} {e : ScoreboardPipeline
               f
               (z .laid);
         }
+
+  -- The calls from here on may be played, and those that are played next add to these.
+  pub played-rest : PlayableFrom l at m b out
+  played-rest = record { formed = y .laid .formed; lent = y .lent; room = y .laid .room }
+
+  pub played-on : {e' : ScoreboardPipeline} {at' b' : ℕ} {m' out' : List ℕ} → Played l at b (viewEngine e) m out e' at' b' m' out'
+      → Played l at₀ b₀ s₀ m₀ out₀ e' at' b' m' out'
+  played-on z =
+      record {
+        valid = z .valid;
+        lent = z .lent;
+        size = z .size ∙ y .size;
+        memory = z .memory ∙ y .memory;
+        laid =
+            record { formed = z .laid .formed; room = z .laid .room; same = z .laid .same ∙ y .laid .same; is = z .laid .is ∙ y .laid .is };
+      }

@@ -1,7 +1,7 @@
 -- The pass over a list: what it has counted and what is left make up the whole.
 use Prim.Native.Nat.{ℕ, _+_, _*_, _≤_, _<_, max}
 use mathlib.Core.Path.{_≡_, refl, sym, ap, _∙_}
-use mathlib.Core.Bool.{Bool, true, false}
+use mathlib.Core.Bool.{true, false}
 use mathlib.Core.Option.{none, some}
 use mathlib.Core.List.{List, [], _∷_}
 use native.Mathlib.Nat.{max-zero}
@@ -13,12 +13,13 @@ use Rattle.laws.proofs.Tests.{cond-yes, cond-no, and-yes, and-no, and-next, and
 use Rattle.model.specs.Calls.{Call}
 use Rattle.decoding.specs.Machine.{making-lent, machine-formed}
 use Rattle.decoding.specs.Calls.{size-at, call-at, formed-at}
-use Rattle.decoding.specs.Script.{calls-at, all-formed, script-of, list-formed, decode}
+use Rattle.decoding.specs.Script.{script-of, list-formed, decode}
 use Rattle.decoding.proofs.Script.{formed-is, all-formed-end, calls-end, all-formed-next, calls-next}
 use Rattle.answers.specs.Size.{size}
 use Rattle.calls.specs.declared.Tally.{Tally}
 use Rattle.calls.specs.Play.{lent-of, most-lent, all-sizes, cells-needed, out-needed}
 use Rattle.calls.specs.Tally.{tally-of}
+use Rattle.calls.specs.Steps.{from, good}
 use Rattle.calls.proofs.Room.{size-most}
 
 -- ── A list that is refused, and one that is not ─────────────────────────────
@@ -41,13 +42,6 @@ module _ (l : List ℕ) where
   machine-there e = leb-true 555 (length l) (and-both (leb 555 (length l)) _ e .0)
 
 -- ── The pass ────────────────────────────────────────────────────────────────
-
--- The calls from a place on, and whether they are of their form.
-abbrev pub from : List ℕ → ℕ → List Call
-from l at = calls-at (length l) l at
-
-abbrev pub good : List ℕ → ℕ → Bool
-good l at = all-formed (length l) l at
 
 -- What was counted, and the calls that are left.
 pub record Sums (l : List ℕ) (rest : List Call) (calls bytes lent : ℕ) : Type 0 where

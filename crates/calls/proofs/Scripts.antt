@@ -44,8 +44,8 @@ use Rattle.calls.specs.Play.{
   script-cells,
 }
 use Rattle.calls.specs.Tally.{tally-of}
-use Rattle.calls.specs.Steps.{AllPlayable}
-use Rattle.calls.proofs.Scans.{machine-there, from, good}
+use Rattle.calls.specs.Steps.{from, good, AllPlayable}
+use Rattle.calls.proofs.Scans.{machine-there}
 
 -- ── What making answers ─────────────────────────────────────────────────────
 

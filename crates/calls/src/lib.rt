@@ -1,4 +1,6 @@
 // A list of calls as bytes (docs/CALLS.md): a machine is made, the calls are played on it, and every answer is written.
+use cycles::cycle_at;
+use cycles::play_cycles;
 use decoding::machine::shape_at;
 use decoding::parts::number_at;
 use decoding::records::formed;
@@ -10,7 +12,9 @@ use scoreboard::ScoreboardPipeline;
 
 // How much room a call takes.
 pub mod measures;
-// The calls that drive the engine.
+// The calls of a cycle.
+pub mod cycles;
+// The other calls that drive the engine.
 pub mod driven;
 // The views.
 pub mod shown;
@@ -150,15 +154,22 @@ fn play_calls(engine: ScoreboardPipeline, list: &[u8], cells: &mut [u8], out: &m
     let mut at: usize = 555;
     let mut b: usize = 17;
     while at < list.len() {
-        let n = answer_size(list, at);
-        timeline::cells::fill(out, b, n, 0);
-        if list[at] < 12 {
-            e = one::play_driven(e, list, at, cells, out, b);
+        if cycle_at(list, at) {
+            let r = play_cycles(e, list, at, cells, out, b);
+            e = r.engine;
+            at = r.at;
+            b = r.b;
         } else {
-            one::play_shown(e, list, at, cells, out, b);
+            let n = answer_size(list, at);
+            timeline::cells::fill(out, b, n, 0);
+            if list[at] < 12 {
+                e = one::play_driven(e, list, at, cells, out, b);
+            } else {
+                one::play_shown(e, list, at, cells, out, b);
+            }
+            b += n;
+            at += size_of(list[at]);
         }
-        b += n;
-        at += size_of(list[at]);
     }
 }
 
