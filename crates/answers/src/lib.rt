@@ -3,7 +3,7 @@
 // Numbers, flags and bytes.
 pub mod parts;
 // An operation, and what shows one: stages, kinds, stations.
-pub mod slots;
+pub mod operations;
 // Waits, rows, cells, claims, status, counters, edges and stages.
 pub mod shown;
 // The answers of driving calls, and what stands before a text.

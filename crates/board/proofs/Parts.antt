@@ -10,7 +10,7 @@ use lib.ListN.{length, getD, take}
 use Rattle.laws.specs.Means.{Means}
 use Rattle.laws.specs.Texts.{Text}
 use Rattle.laws.proofs.Tests.{not-yes, not-no, and-no, and-next, or-yes, or-next, get-or-some}
-use Rattle.laws.proofs.Slices.{length-modify, seen-getD, seen-nth}
+use Rattle.laws.proofs.Slices.{length-modify, seen-nth}
 use Rattle.model.specs.Config.{Machine}
 use Rattle.model.specs.Op.{Op, with-hazard}
 use Rattle.model.specs.Registers.{release-held, release, release-all}
@@ -32,8 +32,8 @@ use Rattle.stalls.specs.View.{Frame as LogFrame, viewLog}
 use Rattle.units.specs.declared.Unit.{Unit as Slot}
 use Rattle.units.specs.View.{viewUnit}
 use Rattle.bank.specs.declared.Units.{Units}
-use Rattle.bank.specs.View.{viewUnits, places, UnitsOk, UnitsAre}
-use Rattle.bank.proofs.Steps.{places-length, units-next, places-next}
+use Rattle.bank.specs.View.{viewUnits, places, UnitsOk}
+use Rattle.bank.proofs.Steps.{places-length, units-next}
 use Rattle.board.specs.declared.Board.{Board}
 use Rattle.board.specs.View.{Frame, known-names, StatusOk}
 use Rattle.board.specs.Contracts.{Looks}
@@ -71,13 +71,6 @@ unit-seen ok g d h = get-or-some (idle-unit 0 0) (seen-nth (units-next ok g d h)
 -- Its place in the pool.
 pub place-inside : {us : Units} → UnitsOk us → {i : ℕ} → i < us .len → i < length (places us)
 place-inside ok h = omega (arith, places-length ok)
-
-pub place-at : {us : Units} → UnitsOk us → (d : Slot) {i : ℕ} → i < us .len → getD (places us) i 80 ≡ getD (us .items) i d .place
-place-at ok d h = seen-getD (places-next ok d h) 80
-
--- As many units as there were.
-pub units-kept : {us r : Units} {m : Legend → List FunctionalUnit} {ps : List ℕ} → UnitsOk us → UnitsAre r m ps → length ps ≡ length (places us) → r .len ≡ us .len
-units-kept ok e h = sym (places-length (e .ok)) ∙ ap length (e .places) ∙ h ∙ places-length ok
 
 -- The waits read the names known.
 abbrev pub frame-with : Frame → List Text → Option Text → LogFrame

@@ -16,7 +16,9 @@ use Rattle.flight.specs.View.{Legend, viewQueue, QueueOk}
 use Rattle.stalls.specs.View.{Frame as LogFrame, listed, viewLog, LogOk}
 use Rattle.stalls.specs.Contracts.{Known}
 use Rattle.bank.specs.View.{viewUnits, slots, UnitsOk, UnitKnows}
+use Rattle.bank.specs.declared.Units.{Units}
 use Rattle.board.specs.declared.Board.{Board}
+use Rattle.board.specs.declared.Sequencer.{Sequencer}
 
 -- What stands behind the numbers, the machine, the rows, and the number of the next operation, which is the id of its row.
 pub record Frame : Type 0 where
@@ -46,6 +48,22 @@ viewBoard f b =
     (front-of (b .front .enabled) (b .front .halted) (b .front .faulted) (b .front .«in_cycle») (b .front .invited) (b .«fetch_pc»)
     (f .next) (f .next))
     (viewLog (log-frame f b) (b .log))
+
+-- The board of a sequencer, with these units.
+abbrev pub board-of : Sequencer → Units → Board
+board-of s us =
+    record {
+      units = us;
+      «fetch_pc» = s .«fetch_pc»;
+      queue = s .queue;
+      offer = s .offer;
+      claims = s .claims;
+      front = s .front;
+      log = s .log;
+      marks = s .marks;
+      gone = s .gone;
+      status = s .status;
+    }
 
 -- ── When it is well formed ──────────────────────────────────────────────────
 

@@ -17,10 +17,12 @@ ghost use Rattle.model.specs.State.{with-front, with-turn, marks};
 ghost use Rattle.model.specs.Write.{offered-branch, retire, retry, stopped, abandon};
 ghost use Rattle.model.specs.Scoreboard.{may-fetch, invite};
 ghost use Rattle.op.specs.View.{viewText, viewMaybeNumber};
-ghost use Rattle.stalls.specs.View.{listed};
+ghost use Rattle.stalls.specs.View.{listed, LogOk};
 ghost use Rattle.stalls.specs.Contracts.{NoRedirect};
 ghost use Rattle.bank.specs.View.{slots, places, UnitsOk, UnitKnows};
-ghost use Rattle.board.specs.View.{Frame, viewBoard, BoardOk};
+ghost use Rattle.slots.specs.View.{units-of, Sized};
+ghost use Rattle.flight.specs.View.{QueueOk};
+ghost use Rattle.board.specs.View.{Frame, viewBoard, board-of, BoardOk};
 ghost use Rattle.board.specs.Contracts.{no-front, Fresh, Opens, Stays, Drops, Completes, Closes, Redirects, Invites};
 
 // A branch, a system operation is in flight.
@@ -46,6 +48,19 @@ pub struct Front {
 // `gone` is the place in the pool of the operation that left in this cycle, 80 for none: the cycle's waits may name it.
 pub struct Board {
     pub units: Units,
+    pub fetch_pc: u64,
+    pub queue: Queue,
+    pub offer: Offer,
+    pub claims: Claims,
+    pub front: Front,
+    pub log: Log,
+    pub marks: Marks,
+    pub gone: u8,
+    pub status: MaybeText,
+}
+
+// A board without its units, which are lent: rows of bytes and numbers, of which the first n count.
+pub struct Sequencer {
     pub fetch_pc: u64,
     pub queue: Queue,
     pub offer: Offer,
@@ -113,43 +128,6 @@ impl Board {
         }
     }
 
-    // Cycles rise by 1, the wait list and the hazards are cleared; a start ends an invitation.
-    // model: Write.open-cycle
-    pub fn opened(mut self) -> Board
-        requires { ⌜ BoardOk self ⌝ }
-        ensures { λ r. ⌜ Opens self r ⌝ }
-    {
-        let units = self.units;
-        let queue = self.queue;
-        let log = self.log;
-        let us = units.clear_hazards();
-        let q = queue.clear_hazards();
-        let l = log.opened();
-        self.units = us;
-        self.queue = q;
-        self.log = l;
-        self.front.in_cycle = true;
-        self.front.invited = false;
-        self.gone = 80;
-        self
-    }
-
-    // model: Write.retire
-    pub fn retire(mut self, branch: bool) -> Board
-        requires { ⌜ BoardOk self ⌝ }
-        requires { ⌜ self .offer .writing < 64 ⌝ }
-        requires { ⌜ ((x : Frame) → branch ≡ offered-branch (viewBoard x self)) ⌝ }
-        ensures { λ r. ⌜ Stays self r retire ⌝ }
-    {
-        let mut log = self.log;
-        let stats = log.stats;
-        let counted = stalls::stats::count_retired(stats, branch);
-        log.stats = counted;
-        self.log = log;
-        self.offer.retired = true;
-        self
-    }
-
     // model: Write.retry
     pub fn retry(mut self, reason: Text) -> Board
         requires { ⌜ BoardOk self ⌝ }
@@ -208,12 +186,100 @@ impl Board {
         b.front.faulted = if faults { true } else { b.front.faulted };
         b
     }
+}
+
+impl Sequencer {
+    // A board's parts but for its units.
+    pub fn of(board: Board) -> Sequencer
+        ensures { λ r. ⌜ board ≡ board-of r (board .units) ⌝ }
+    {
+        let queue = board.queue;
+        let offer = board.offer;
+        let claims = board.claims;
+        let front = board.front;
+        let log = board.log;
+        let marks = board.marks;
+        let status = board.status;
+        Sequencer {
+            fetch_pc: board.fetch_pc,
+            queue,
+            offer,
+            claims,
+            front,
+            log,
+            marks,
+            gone: board.gone,
+            status,
+        }
+    }
+
+    // With units again.
+    pub fn board(self, units: Units) -> Board
+        ensures { λ r. ⌜ r ≡ board-of self units ⌝ }
+    {
+        let queue = self.queue;
+        let offer = self.offer;
+        let claims = self.claims;
+        let front = self.front;
+        let log = self.log;
+        let marks = self.marks;
+        let status = self.status;
+        Board {
+            units,
+            fetch_pc: self.fetch_pc,
+            queue,
+            offer,
+            claims,
+            front,
+            log,
+            marks,
+            gone: self.gone,
+            status,
+        }
+    }
+
+    // Cycles rise by 1, the wait list and the hazards are cleared; a start ends an invitation.
+    // model: Write.open-cycle
+    pub fn opened(mut self, us: &mut [[u8; 40]], ss: &mut [u64], n: usize) -> Sequencer
+        requires { ⌜ Sized (now us) (now ss) ⌝ }
+        requires { ⌜ BoardOk (board-of self (units-of (now us) (now ss) n)) ⌝ }
+        ensures is { λ r. ⌜ Opens (board-of self (units-of (now (us .entry)) (now (ss .entry)) n)) (board-of r (units-of (now (us .exit)) (now (ss .exit)) n)) ⌝ }
+        ensures size { λ r. ⌜ Sized (now (us .exit)) (now (ss .exit)) ⌝ }
+    {
+        let queue = self.queue;
+        let log = self.log;
+        stepping::clear_hazards(us, ss, n);
+        let q = queue.clear_hazards();
+        let l = log.opened();
+        self.queue = q;
+        self.log = l;
+        self.front.in_cycle = true;
+        self.front.invited = false;
+        self.gone = 80;
+        self
+    }
+
+    // model: Write.retire
+    pub fn retire(mut self, branch: bool) -> Sequencer
+        requires { ⌜ LogOk (self .log) ⌝ }
+        ensures { λ r. ⌜ ((us : Units) → BoardOk (board-of self us) → self .offer .writing < 64 → ((x : Frame) → branch ≡ offered-branch (viewBoard x (board-of self us))) → Stays (board-of self us) (board-of r us) retire) ⌝ }
+    {
+        let mut log = self.log;
+        let stats = log.stats;
+        let counted = stalls::stats::count_retired(stats, branch);
+        log.stats = counted;
+        self.log = log;
+        self.offer.retired = true;
+        self
+    }
 
     // complete_write and the cycle's end.
     // model: Scoreboard.closed
-    pub fn closed(mut self) -> Board
-        requires { ⌜ BoardOk self ⌝ }
-        ensures { λ r. ⌜ Closes self r ⌝ }
+    pub fn closed(mut self, us: &mut [[u8; 40]], ss: &mut [u64], n: usize) -> Sequencer
+        requires { ⌜ Sized (now us) (now ss) ⌝ }
+        requires { ⌜ BoardOk (board-of self (units-of (now us) (now ss) n)) ⌝ }
+        ensures is { λ r. ⌜ Closes (board-of self (units-of (now (us .entry)) (now (ss .entry)) n)) (board-of r (units-of (now (us .exit)) (now (ss .exit)) n)) ⌝ }
+        ensures size { λ r. ⌜ Sized (now (us .exit)) (now (ss .exit)) ⌝ }
     {
         let at = self.offer.writing;
         self.front.in_cycle = false;
@@ -221,26 +287,26 @@ impl Board {
         if 64 <= at {
             return self;
         }
-        self.completed(at)
+        self.completed(us, ss, n, at)
     }
 
     // model: Issue.complete-at
-    fn completed(mut self, at: usize) -> Board
-        requires { ⌜ BoardOk self ⌝ }
-        requires { ⌜ at < self .units .len ⌝ }
-        ensures { λ r. ⌜ Completes self at r ⌝ }
+    fn completed(mut self, us: &mut [[u8; 40]], ss: &mut [u64], n: usize, at: usize) -> Sequencer
+        requires { ⌜ Sized (now us) (now ss) ⌝ }
+        requires { ⌜ BoardOk (board-of self (units-of (now us) (now ss) n)) ⌝ }
+        requires { ⌜ at < n ⌝ }
+        ensures is { λ r. ⌜ Completes (board-of self (units-of (now (us .entry)) (now (ss .entry)) n)) at (board-of r (units-of (now (us .exit)) (now (ss .exit)) n)) ⌝ }
+        ensures size { λ r. ⌜ Sized (now (us .exit)) (now (ss .exit)) ⌝ }
     {
-        let units = self.units;
         let claims = self.claims;
-        let u = units.items[at];
+        let u = slots::unit_at(us, ss, at);
         let operands = u.operands;
         let class = u.class;
         let destinations = operands.destinations;
-        let us = units.completed(at);
+        stepping::completed(us, ss, n, at);
         let c = claims.release_all(destinations, operands.destinations_len, at as u8);
         let branch = self.marks.branch;
         let system = self.marks.system;
-        self.units = us;
         self.claims = c;
         self.marks.branch = if u.redirects { false } else { branch };
         self.marks.system = if is_system(class) { false } else { system };
@@ -252,11 +318,12 @@ impl Board {
 
     // The status goes; on a redirect the queue too.
     // model: Issue.redirected, after Scoreboard.clear-status; the rows' cells aside
-    pub fn redirected(mut self, redirect: MaybeNumber) -> Board
-        requires { ⌜ BoardOk self ⌝ }
+    pub fn redirected(mut self, redirect: MaybeNumber) -> Sequencer
+        requires { ⌜ QueueOk (self .queue) ⌝ }
+        requires { ⌜ LogOk (self .log) ⌝ }
         requires { ⌜ self .log .traces .len ≤ 64 ⌝ }
         requires { ⌜ All NoRedirect (listed (self .log .traces)) ⌝ }
-        ensures { λ r. ⌜ Redirects self r (viewMaybeNumber redirect) ⌝ }
+        ensures { λ r. ⌜ ((us : Units) → BoardOk (board-of self us) → Redirects (board-of self us) (board-of r us) (viewMaybeNumber redirect)) ⌝ }
     {
         let status = MaybeText::none();
         self.status = status;
@@ -273,12 +340,12 @@ impl Board {
     }
 
     // model: Scoreboard.may-fetch
-    fn may_fetch(self, depth: usize) -> bool
-        requires { ⌜ BoardOk self ⌝ }
-        ensures { λ r. ⌜ ((x : Frame) → x .machine .depth ≡ depth → r ≡ may-fetch (viewBoard x self)) ⌝ }
+    fn may_fetch(self, us: &[[u8; 40]], ss: &[u64], n: usize, depth: usize) -> bool
+        requires { ⌜ Sized (now us) (now ss) ⌝ }
+        requires { ⌜ BoardOk (board-of self (units-of (now us) (now ss) n)) ⌝ }
+        ensures { λ r. ⌜ ((x : Frame) → x .machine .depth ≡ depth → r ≡ may-fetch (viewBoard x (board-of self (units-of (now (us .entry)) (now (ss .entry)) n)))) ⌝ }
     {
         let queue = self.queue;
-        let units = self.units;
         if depth <= queue.len {
             return false;
         }
@@ -286,18 +353,19 @@ impl Board {
             return true;
         }
         if queue.len == 0 {
-            !units.any_busy()
+            !stepping::any_busy(us, ss, n)
         } else {
             false
         }
     }
 
     // model: Scoreboard.invite
-    pub fn invite(mut self, depth: usize) -> Board
-        requires { ⌜ BoardOk self ⌝ }
-        ensures { λ r. ⌜ Invites self depth r ⌝ }
+    pub fn invite(mut self, us: &[[u8; 40]], ss: &[u64], n: usize, depth: usize) -> Sequencer
+        requires { ⌜ Sized (now us) (now ss) ⌝ }
+        requires { ⌜ BoardOk (board-of self (units-of (now us) (now ss) n)) ⌝ }
+        ensures { λ r. ⌜ Invites (board-of self (units-of (now (us .entry)) (now (ss .entry)) n)) depth (board-of r (units-of (now (us .entry)) (now (ss .entry)) n)) ⌝ }
     {
-        let invited = self.may_fetch(depth);
+        let invited = self.may_fetch(us, ss, n, depth);
         self.front.invited = invited;
         self
     }

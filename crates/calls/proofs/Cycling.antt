@@ -1,36 +1,58 @@
 -- The calls of a cycle played one after the other.
-use Prim.Native.Nat.{ℕ, _+_, _≤_, _<_}
-use mathlib.Core.Path.{_≡_, ap}
-use mathlib.Core.Bool.{true, false}
+use Prim.Native.Nat.{ℕ, _+_, _-_, _≤_, _<_}
+use mathlib.Core.Path.{_≡_, sym, ap, ap₂, subst}
+use mathlib.Core.Bool.{Bool, true, false, cond}
 use mathlib.Core.List.{List}
-use mathlib.Core.Logic.{⊎-elim}
 use native.Mathlib.Omega.{arith}
 use lib.ListN.{length, replicate}
-use Rattle.laws.proofs.Tests.{lt-or-ge}
 use Rattle.model.specs.Timeline.{splice}
 use Rattle.model.specs.State.{State}
-use Rattle.config.specs.declared.Machine.{Machine}
-use Rattle.registers.specs.declared.RegisterTable.{RegisterTable}
-use Rattle.flight.specs.declared.pool.DecodedPool.{DecodedPool}
-use Rattle.flight.specs.declared.pool.TextPool.{TextPool}
+use Rattle.op.specs.declared.Name.{Name}
 use Rattle.timeline.specs.declared.Tracks.{Tracks}
-use Rattle.timeline.specs.declared.RowTexts.{RowTexts}
-use Rattle.timeline.specs.declared.Window.{Window}
+use Rattle.slots.specs.View.{Sized}
+use Rattle.tracks.specs.View.{TracksSized}
+use Rattle.lookup.specs.Lookup.{NamesHeld}
 use Rattle.board.specs.declared.Board.{Board}
 use Rattle.scoreboard.specs.declared.ScoreboardPipeline.{ScoreboardPipeline}
-use Rattle.scoreboard.specs.View.{viewEngine}
+use Rattle.scoreboard.specs.declared.Next.{Next}
+use Rattle.scoreboard.specs.View.{viewEngine, viewAnswer}
 use Rattle.scoreboard.specs.Valid.{Valid}
-use Rattle.decoding.specs.Calls.{size-at, call-at}
+use Rattle.scoreboard.specs.Calls.{Does}
+use Rattle.decoding.specs.Calls.{size-at, call-at, formed-at}
+use Rattle.decoding.proofs.Script.{formed-is}
+use Rattle.answers.specs.Encode.{encode}
 use Rattle.answers.specs.Size.{size}
-use Rattle.calls.specs.Steps.{PlayableFrom, Played, cycle-at}
-use Rattle.calls.proofs.Plays.{Step, played-first, played-next}
+use Rattle.calls.specs.Play.{cells-after}
+use Rattle.calls.specs.Steps.{Playable, PlayableFrom, Played}
+use Rattle.calls.proofs.Lays.{laying-there}
+use Rattle.calls.proofs.Plays.{answer-room, step-done, played-first, played-playable, played-next}
 
--- The engine made of its parts.
-abbrev pub whole : Board → Window → Tracks → DecodedPool → Machine → RegisterTable → TextPool → RowTexts → ScoreboardPipeline
-whole b w ts ds m t xs rs =
-    record { board = b; window = w; tracks = ts; decoded = ds; machine = m; table = t; texts = xs; rows = rs }
+-- ── The engine's parts in lent arrays ───────────────────────────────────────
 
--- The calls from a place on, and how far they were played.
+pub record Lines (us : List (List ℕ)) (ss : List ℕ) (ts : List (List ℕ)) (fs : List ℕ) (bs : List (List ℕ)) (ls : List ℕ) (xs : List Name) : Type 0 where
+  pub units : Sized us ss
+  pub tracks : TracksSized ts fs
+  pub names : NamesHeld bs ls xs
+
+-- An engine with this board and these tracks.
+abbrev pub with-both : Board → Tracks → ScoreboardPipeline → ScoreboardPipeline
+with-both b ts e =
+    record {
+      board = b;
+      window = e .window;
+      tracks = ts;
+      decoded = e .decoded;
+      machine = e .machine;
+      table = e .table;
+      texts = e .texts;
+      rows = e .rows;
+    }
+
+pub both-is : (e : ScoreboardPipeline) {b c : Board} {ts us : Tracks} → b ≡ c → ts ≡ us → with-both b ts e ≡ with-both c us e
+both-is e p q = ap₂ (λ x y. with-both x y e) p q
+
+-- ── What was played ─────────────────────────────────────────────────────────
+
 pub record Cycling (l : List ℕ) (at₀ b₀ : ℕ) (s₀ : State) (m₀ out₀ : List ℕ) (e : ScoreboardPipeline) (at b : ℕ) (m out : List ℕ) : Type 0 where
   pub played : Played l at₀ b₀ s₀ m₀ out₀ e at b m out
   pub on : at₀ ≤ at
@@ -39,19 +61,69 @@ pub cycling-first : {l m out : List ℕ} {at b : ℕ} {e : ScoreboardPipeline} �
     → Cycling l at b (viewEngine e) m out e at b m out
 cycling-first v a = record { played = played-first v a; on = omega arith }
 
-module _ {l m₀ out₀ m out : List ℕ} {at₀ b₀ at b : ℕ} {s₀ : State} {e : ScoreboardPipeline} (y : Cycling l at₀ b₀ s₀ m₀ out₀ e at b m out) where
-  pub cycling-next : at < length l → {n k : ℕ} {filled : List ℕ} → n ≡ size (call-at l at) → filled ≡ splice b (replicate n 0) out → k ≡ size-at l at
-      → {e' : ScoreboardPipeline} {m' out' : List ℕ} → Step (call-at l at) b e m filled e' m' out'
-      → Cycling l at₀ b₀ s₀ m₀ out₀ e' (at + k) (b + n) m' out'
-  cycling-next h p f q z = record { played = played-next (y .played) h p f q z; on = omega (arith, y .on) }
+-- Of the engine that was laid out in arrays, and the one that they make up again.
+pub cycling-last
+    : {l m₀ out₀ m out : List ℕ} {at₀ b₀ at b : ℕ} {e₀ d₀ e d : ScoreboardPipeline} → Cycling l at₀ b₀ (viewEngine e₀) m₀ out₀ e at b m out → e₀ ≡ d₀
+    → d ≡ e → Played l at₀ b₀ (viewEngine d₀) m₀ out₀ d at b m out × (at₀ ≤ at)
+cycling-last {l} {m₀} {out₀} {m} {out} {at₀} {b₀} {at} {b} {e₀} {d₀} {e} {d} y p q = (
+  subst (λ x. Played l at₀ b₀ (viewEngine x) m₀ out₀ d at b m out) p
+      (subst (λ x. Played l at₀ b₀ (viewEngine e₀) m₀ out₀ x at b m out) (sym q) (y .played)),
+  y .on,
+)
 
-  -- The first of them was played.
-  pub cycling-further : cycle-at l at₀ ≡ true → cycle-at l at ≡ false → at₀ < at
-  cycling-further p q =
-      ⊎-elim
-      (λ (h : at₀ < at). h)
-      (λ (h : at ≤ at₀).
-      let same : at ≡ at₀ = omega (arith, y .on) in
-      let z : _≡_ {A = ℕ} 0 1 = cc (ap (cycle-at l) same) in
-      omega arith)
-      (lt-or-ge at₀ at)
+-- ── A turn ──────────────────────────────────────────────────────────────────
+
+-- What a call leaves of the engine, with its answer, and the cell memory.
+abbrev pub Done : List ℕ → ℕ → ScoreboardPipeline → List ℕ → Next → List ℕ → Type 0
+Done l at e m r m' = Does e (call-at l at) r × (m' ≡ cells-after (viewEngine e) (call-at l at) m)
+
+-- The n bytes of the answer are 0, and the call takes k bytes.
+pub record Turn (l : List ℕ) (at₀ b₀ : ℕ) (s₀ : State) (m₀ out₀ : List ℕ) (e : ScoreboardPipeline) (at b : ℕ) (m out filled : List ℕ) (n k : ℕ) : Type 0 where
+  pub cycling : Cycling l at₀ b₀ s₀ m₀ out₀ e at b m out
+  pub there : at < length l
+  pub room : n ≡ size (call-at l at)
+  pub zeros : filled ≡ splice b (replicate n 0) out
+  pub bytes : k ≡ size-at l at
+
+module _ {l m₀ out₀ m out filled : List ℕ} {at₀ b₀ at b n k : ℕ} {s₀ : State} {e : ScoreboardPipeline}
+    (t : Turn l at₀ b₀ s₀ m₀ out₀ e at b m out filled n k) where
+  pub turn-playable : Playable l at m b filled
+  turn-playable = played-playable (t .cycling .played) (t .there) (t .room) (t .zeros)
+
+  pub turn-valid : Valid e
+  turn-valid = t .cycling .played .valid
+
+  -- The answer's first byte.
+  pub turn-byte : b < length filled
+  turn-byte = laying-there (t .cycling .played .laid) (t .there) n (t .zeros)
+
+  module _ {r : Next} {m' : List ℕ} (d : Done l at e m r m') where
+    pub turn-room : b + length (encode (viewAnswer (r .answer))) ≤ length filled
+    turn-room = answer-room (d .0) b filled (turn-playable .room)
+
+    pub turn-done : {out' : List ℕ} → out' ≡ splice b (encode (viewAnswer (r .answer))) filled
+        → Cycling l at₀ b₀ s₀ m₀ out₀ (r .engine) (at + k) (b + n) m' out'
+    turn-done q =
+        record {
+          played = played-next (t .cycling .played) (t .there) (t .room) (t .zeros) (t .bytes) (step-done (d .0) (d .1) q);
+          on = omega (arith, t .cycling .on);
+        }
+
+-- ── How many turns are left at most ─────────────────────────────────────────
+
+abbrev pub turns : List ℕ → ℕ → Bool → ℕ
+turns l at more = (length l - at) + cond more 1 0
+
+module _ {x : Bool} (p : x ≡ true) where
+  pub turns-next : (l : List ℕ) (at : ℕ) {k : ℕ} → formed-at l at ≡ true → k ≡ size-at l at → (y : Bool) → turns l (at + k) y < turns l at x
+  turns-next l at {k} f q y =
+      let h = formed-is l at f in
+      omega (arith, q, h .some, h .inside, most y, ap {B = ℕ} (λ b. cond b 1 0) p)
+    where
+      most : (b : Bool) → cond {A = ℕ} b 1 0 ≤ 1
+      most true = omega arith
+      most false = omega arith
+
+  -- No call was played.
+  pub turns-stop : (l : List ℕ) (at : ℕ) {y : Bool} → y ≡ false → turns l at y < turns l at x
+  turns-stop l at q = omega (arith, ap {B = ℕ} (λ b. cond b 1 0) p, ap {B = ℕ} (λ b. cond b 1 0) q)

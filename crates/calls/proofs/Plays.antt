@@ -237,3 +237,11 @@ module _ {l m₀ out₀ m out : List ℕ} {at₀ b₀ at b : ℕ} {s₀ : State}
         laid =
             record { formed = z .laid .formed; room = z .laid .room; same = z .laid .same ∙ y .laid .same; is = z .laid .is ∙ y .laid .is };
       }
+
+  pub played-same : {e' : ScoreboardPipeline} {at' b' : ℕ} {m' out' : List ℕ} → m' ≡ m → out' ≡ out → e' ≡ e → at' ≡ at → b' ≡ b
+      → Played l at₀ b₀ s₀ m₀ out₀ e' at' b' m' out'
+  played-same {e'} {at'} {b'} {m'} {out'} p q r s t =
+      subst (λ x. Played l at₀ b₀ s₀ m₀ out₀ e' at' b' x out') (sym p)
+      (subst (λ x. Played l at₀ b₀ s₀ m₀ out₀ e' at' b' m x) (sym q)
+      (subst (λ x. Played l at₀ b₀ s₀ m₀ out₀ x at' b' m out) (sym r)
+      (subst (λ x. Played l at₀ b₀ s₀ m₀ out₀ e x b' m out) (sym s) (subst (λ x. Played l at₀ b₀ s₀ m₀ out₀ e at x m out) (sym t) y))))

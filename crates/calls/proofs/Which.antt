@@ -1,17 +1,17 @@
 -- Which call stands at a place, by the byte there: what is told of it, whether its bytes are there, and what it is lent.
 use Prim.Native.Nat.{ℕ, _+_, _-_, _≤_, _<_}
 use mathlib.Core.Path.{_≡_, refl, sym, ap, _∙_}
-use mathlib.Core.Bool.{true, false}
+use mathlib.Core.Bool.{true}
 use mathlib.Core.Logic.{⊎-elim}
 use mathlib.Core.List.{List, _++_, map}
 use native.Mathlib.Omega.{arith}
-use borrow.Author.Tests.{lt-ltb, le-ltb, ltb-true, ltb-false, eqb-true, eqb-false, ne-eqb}
-use lib.Dec.{ltb, eqb}
+use borrow.Author.Tests.{le-ltb, ltb-true, eqb-true, ne-eqb}
+use lib.Dec.{ltb}
 use lib.ListN.{length, getD, set, drop, replicate, List·getD-map, List·getD-eq-default, getD-replicate}
 use lib.Seq.{getD-drop, getD-set-other}
 use Rattle.laws.specs.Lists.{All}
 use Rattle.laws.proofs.Slices.{getD-any, All-getD}
-use Rattle.laws.proofs.Tests.{lt-or-ge, and-both, and-next, or-next, or-neither}
+use Rattle.laws.proofs.Tests.{lt-or-ge, and-both, or-next}
 use Rattle.model.specs.Requests.{status-message}
 use Rattle.model.specs.Calls.{Call}
 use Rattle.decoding.specs.Bytes.{byte-at, number-at}
@@ -117,30 +117,15 @@ module _ (l : List ℕ) (at : ℕ) where
 
 -- ── The calls of a cycle ────────────────────────────────────────────────────
 
-module _ (l : List ℕ) (at : ℕ) where
-  module _ (e : cycle-at l at ≡ true) where
-    pub cycle-there : at < length l
-    unfolding cycle-at
-    cycle-there = ltb-true at (length l) (and-both (ltb at (length l)) _ e .0)
+module _ (l : List ℕ) (at : ℕ) (e : cycle-at l at ≡ true) where
+  pub cycle-there : at < length l
+  unfolding cycle-at
+  cycle-there = ltb-true at (length l) (and-both (ltb at (length l)) _ e .0)
 
-    -- The last of them.
-    pub cycle-fetch : (byte-at l at ≡ 0 → ⊥) → (byte-at l at ≡ 1 → ⊥) → (byte-at l at ≡ 4 → ⊥) → byte-at l at ≡ 5
-    unfolding cycle-at of-cycle
-    cycle-fetch a b c =
-        let k = byte-at l at in
-        eqb-true k 5
-        (sym (or-next _ (le-ltb k 2 (omega arith)) ∙ or-next _ (ne-eqb k 4 c)) ∙ and-both (ltb at (length l)) _ e .1)
-
-  -- A call that is none of them.
-  pub record Other : Type 0 where
-    pub from : 2 ≤ byte-at l at
-    pub advance : byte-at l at ≡ 4 → ⊥
-    pub fetch : byte-at l at ≡ 5 → ⊥
-
-  pub other : at < length l → cycle-at l at ≡ false → Other
+  -- The last of them.
+  pub cycle-advance : (byte-at l at ≡ 5 → ⊥) → (byte-at l at ≡ 0 → ⊥) → (byte-at l at ≡ 1 → ⊥) → byte-at l at ≡ 4
   unfolding cycle-at of-cycle
-  other h e =
+  cycle-advance a b c =
       let k = byte-at l at in
-      let p = or-neither (ltb k 2) _ (sym (and-next _ (lt-ltb at (length l) h)) ∙ e) in
-      let q = or-neither (eqb k 4) _ (p .1) in
-      record { from = ltb-false k 2 (p .0); advance = eqb-false k 4 (q .0); fetch = eqb-false k 5 (q .1) }
+      eqb-true k 4
+      (sym (or-next _ (le-ltb k 2 (omega arith)) ∙ or-next _ (ne-eqb k 5 a)) ∙ and-both (ltb at (length l)) _ e .1)

@@ -66,7 +66,7 @@ pub record Played (l : List ℕ) (at₀ b₀ : ℕ) (s₀ : State) (m₀ out₀ 
 
 -- Start, retire, advance and fetch.
 unfoldable pub of-cycle : ℕ → Bool
-of-cycle k = ltb k 2 || (eqb k 4 || eqb k 5)
+of-cycle k = ltb k 2 || (eqb k 5 || eqb k 4)
 
 -- Does one of them stand at a place?
 unfoldable pub cycle-at : List ℕ → ℕ → Bool

@@ -12,9 +12,9 @@ use scoreboard::ScoreboardPipeline;
 
 // How much room a call takes.
 pub mod measures;
-// The calls of a cycle.
+// The calls of a cycle, one after the other.
 pub mod cycles;
-// The other calls that drive the engine.
+// The calls that drive the engine, one at a time.
 pub mod driven;
 // The views.
 pub mod shown;
@@ -143,7 +143,8 @@ fn refuse_calls(list: &[u8], out: &mut [u8], no: u8)
     }
 }
 
-// All calls, each on the engine and the cell memory that the last one left.
+// All calls, each on the engine and the cell memory that the last one left. Where the calls of a cycle stop, the next call is played by itself, so that
+// each turn passes at least one.
 fn play_calls(engine: ScoreboardPipeline, list: &[u8], cells: &mut [u8], out: &mut [u8])
     requires { ⌜ Valid engine ⌝ }
     requires { ⌜ AllPlayable (now list) (now cells) (now out) ⌝ }
@@ -159,7 +160,8 @@ fn play_calls(engine: ScoreboardPipeline, list: &[u8], cells: &mut [u8], out: &m
             e = r.engine;
             at = r.at;
             b = r.b;
-        } else {
+        }
+        if at < list.len() {
             let n = answer_size(list, at);
             timeline::cells::fill(out, b, n, 0);
             if list[at] < 12 {

@@ -5,7 +5,6 @@ use crate::texts::tell;
 use answers::replies::put_answer;
 use scoreboard::ScoreboardPipeline;
 ghost use mathlib.Core.Path.{_≡_};
-ghost use mathlib.Core.Bool.{false};
 ghost use Prim.Native.Nat.{_<_, _≤_};
 ghost use lib.ListN.{take};
 ghost use Rattle.model.specs.Timeline.{splice};
@@ -16,9 +15,9 @@ ghost use Rattle.decoding.specs.Bytes.{byte-at};
 ghost use Rattle.decoding.specs.Calls.{call-at};
 ghost use Rattle.answers.specs.Encode.{encode};
 ghost use Rattle.calls.specs.Play.{lent-of, cells-after};
-ghost use Rattle.calls.specs.Steps.{Playable, Leaves, cycle-at};
+ghost use Rattle.calls.specs.Steps.{Playable, Leaves};
 
-// 2, 3 and 6 to 11.
+// 0 to 11.
 pub fn play_driven(
     engine: ScoreboardPipeline,
     list: &[u8],
@@ -29,7 +28,6 @@ pub fn play_driven(
 ) -> ScoreboardPipeline
     requires { ⌜ Valid engine ⌝ }
     requires { ⌜ Playable (now list) at (now cells) b (now out) ⌝ }
-    requires { ⌜ cycle-at (now list) at ≡ false ⌝ }
     requires { ⌜ byte-at (now list) at < 12 ⌝ }
     ensures engine { λ r. ⌜ Leaves engine (call-at (now (list .entry)) at) r ⌝ }
     ensures memory { λ r. ⌜ now (cells .exit) ≡ cells-after (viewEngine engine) (call-at (now (list .entry)) at) (now (cells .entry)) ⌝ }

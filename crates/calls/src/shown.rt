@@ -1,4 +1,8 @@
 // The views: calls 12 to 38. Each lays down its answer from a place on and hands back the next place.
+use answers::operations::put_kind_answer;
+use answers::operations::put_slot_answer;
+use answers::operations::put_stage_answer;
+use answers::operations::put_station_answer;
 use answers::shown::put_cell_answer;
 use answers::shown::put_claim_answer;
 use answers::shown::put_edges;
@@ -9,10 +13,6 @@ use answers::shown::put_stages;
 use answers::shown::put_stats;
 use answers::shown::put_status;
 use answers::shown::put_wait_answer;
-use answers::slots::put_kind_answer;
-use answers::slots::put_slot_answer;
-use answers::slots::put_stage_answer;
-use answers::slots::put_station_answer;
 use decoding::parts::number_at;
 use scoreboard::ScoreboardPipeline;
 ghost use mathlib.Core.Path.{_≡_};

@@ -1,4 +1,5 @@
 pub mod Idle
 pub mod Cycles
+pub mod Fetching
 pub mod Taken
 pub mod Turns

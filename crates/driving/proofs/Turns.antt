@@ -1,6 +1,6 @@
 -- Turns, and as many as the fuel allows.
 use Prim.Native.Nat.{ℕ, zero, suc, _+_, _-_, _*_, _≤_, _<_}
-use mathlib.Core.Path.{_≡_, refl, sym, ap, _∙_}
+use mathlib.Core.Path.{_≡_, refl, sym, subst, ap, _∙_}
 use mathlib.Core.Bool.{Bool, true, false, _&&_}
 use mathlib.Core.Logic.{_⊎_, inl, inr, ⊎-elim}
 use mathlib.Core.Option.{Option, none, some}
@@ -209,10 +209,19 @@ module _ {input : Text} {whole : Run} {cells₀ cells : List ℕ} {g : Going} {f
         lines = r .lines;
       }
 
--- The run from the start, with its fuel.
-pub whole-run : (e : ScoreboardPipeline) (cells : List ℕ) {input : Text} {h : Going} {k : List ℕ}
+-- The run from the start, with its fuel, of an engine that was laid out.
+pub whole-run : {e f : ScoreboardPipeline} → e ≡ f → (cells : List ℕ) {input : Text} {h : Going} {k : List ℕ}
     → Goes input (forecast-run (100 * (length input + 1)) (viewRun input (record { engine = e; at = 0; lines = 0; stands = 0; number = 0 }) cells)) h k
-    → Goes input (forecast-run (fuel-for input) (going (lent-of (viewEngine e) cells) input 0)) h k
+    → Goes input (forecast-run (fuel-for input) (going (lent-of (viewEngine f) cells) input 0)) h k
 unfolding viewRun run-by fuel-for
-whole-run e cells {input} =
-    goes-as (ap (λ n. forecast-run n (going (lent-of (viewEngine e) cells) input 0)) (let z : 100 * (length input + 1) ≡ 100 * suc (length input) = omega arith in z))
+whole-run {e} q cells {input} =
+    goes-as
+    (ap (λ n. forecast-run n (going (lent-of (viewEngine e) cells) input 0)) (let z : 100 * (length input + 1) ≡ 100 * suc (length input) = omega arith in z)
+    ∙ ap (λ x. forecast-run (100 * suc (length input)) (going (lent-of (viewEngine x) cells) input 0)) q)
+
+-- The engine of its end, taken up again.
+pub goes-back : {input : Text} {a : Run} {e f : ScoreboardPipeline} {at lines stands number : ℕ} {m : List ℕ} → f ≡ e
+    → Goes input a (record { engine = e; at = at; lines = lines; stands = stands; number = number }) m
+    → Goes input a (record { engine = f; at = at; lines = lines; stands = stands; number = number }) m
+goes-back {input} {a} {at = at} {lines} {stands} {number} {m} q =
+    subst (λ x. Goes input a (record { engine = x; at = at; lines = lines; stands = stands; number = number }) m) (sym q)

@@ -10,11 +10,10 @@ use Rattle.config.specs.declared.Machine.{Machine}
 use Rattle.timeline.specs.declared.Tracks.{Tracks}
 use Rattle.timeline.specs.declared.Window.{Window}
 use Rattle.board.specs.declared.Board.{Board}
-use Rattle.scoreboard.specs.declared.advance.Rest.{Rest}
 use Rattle.scoreboard.specs.declared.ScoreboardPipeline.{ScoreboardPipeline}
 use Rattle.scoreboard.specs.View.{viewEngine}
 use Rattle.scoreboard.specs.Valid.{Valid}
-use Rattle.scoreboard.specs.Advance.{engine-of}
+use Rattle.scoreboard.specs.Advance.{engine-of, Rested}
 use Rattle.driving.specs.declared.Going.{Going}
 
 -- By how it stands: 0 while it goes on, 1 where it is finished, else a line was refused.
@@ -44,7 +43,7 @@ pub record Cyclable (b : Board) (w : Window) (ts : Tracks) (m : Machine) (known 
   pub valid : Valid (engine-of b w ts m known held engine)
 
 -- It is the cycle of every engine with these parts.
-abbrev pub CyclesWith : Board → Window → Tracks → Machine → ℕ → ℕ → List ℕ → Rest → List ℕ → Type 0
+abbrev pub CyclesWith : Board → Window → Tracks → Machine → ℕ → ℕ → List ℕ → Rested → List ℕ → Type 0
 CyclesWith b w ts m known held before r after =
     (e : ScoreboardPipeline) → Valid (engine-of b w ts m known held e)
     → Cycles (engine-of b w ts m known held e) before (engine-of (r .board) w (r .tracks) m (r .known) (r .held) e) after

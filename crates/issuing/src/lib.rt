@@ -1,5 +1,5 @@
 // One operation a cycle, in program order (ooo/scoreboard.rs, issue and block_issue).
-use board::Board;
+use board::Sequencer;
 use config::Machine;
 use flight::Queued;
 use registers::MaybeIndex;
@@ -13,9 +13,13 @@ ghost use Rattle.laws.specs.Lists.{All, rest};
 ghost use Rattle.model.specs.Registers.{resolve};
 ghost use Rattle.model.specs.Issue.{issue-looked};
 ghost use Rattle.config.specs.Kept.{MachineOk};
-ghost use Rattle.flight.specs.View.{viewQueued, viewQueue, QueuedOk};
+ghost use Rattle.registers.specs.View.{ClaimsOk};
+ghost use Rattle.flight.specs.View.{viewQueued, QueuedOk, QueueOk};
+ghost use Rattle.stalls.specs.View.{LogOk};
 ghost use Rattle.stalls.specs.Contracts.{names-register};
-ghost use Rattle.board.specs.View.{BoardOk};
+ghost use Rattle.bank.specs.declared.Units.{Units};
+ghost use Rattle.slots.specs.View.{units-of, Sized};
+ghost use Rattle.board.specs.View.{board-of, BoardOk};
 ghost use Rattle.issuing.specs.Issues.{Issues};
 ghost use Rattle.issuing.specs.Steps.{Fronts, numbers, Learns, Chooses, Blocks, Places, Goes};
 
@@ -27,10 +31,10 @@ pub enum Way {
 
 // The front is looked at: its names are known from now on.
 // model: Issue.learn
-fn looked(board: Board, front: Queued) -> Board
-    requires { ⌜ BoardOk board ⌝ }
+fn looked(board: Sequencer, front: Queued) -> Sequencer
+    requires { ⌜ ClaimsOk (board .claims) ⌝ }
     requires { ⌜ QueuedOk front ⌝ }
-    ensures { λ r. ⌜ Learns board (front .operands) r ⌝ }
+    ensures { λ r. ⌜ ((us : Units) → BoardOk (board-of board us) → Learns (board-of board us) (front .operands) (board-of r us)) ⌝ }
 {
     let mut b = board;
     let claims = b.claims;
@@ -42,14 +46,21 @@ fn looked(board: Board, front: Queued) -> Board
 
 // WAW, then a free unit.
 // model: Issue.issue-to, its choice
-fn way_looked(board: Board, front: Queued, machine: Machine) -> Way
-    requires { ⌜ BoardOk board ⌝ }
+fn way_looked(
+    board: Sequencer,
+    us: &[[u8; 40]],
+    ss: &[u64],
+    n: usize,
+    front: Queued,
+    machine: Machine,
+) -> Way
+    requires { ⌜ Sized (now us) (now ss) ⌝ }
+    requires { ⌜ BoardOk (board-of board (units-of (now us) (now ss) n)) ⌝ }
     requires { ⌜ QueuedOk front ⌝ }
     requires { ⌜ MachineOk machine ⌝ }
-    ensures { λ r. ⌜ Chooses board front machine r ⌝ }
+    ensures { λ r. ⌜ Chooses (board-of board (units-of (now (us .entry)) (now (ss .entry)) n)) front machine r ⌝ }
 {
     let claims = board.claims;
-    let units = board.units;
     let operands = front.operands;
     let class = front.class;
     let destinations = operands.destinations;
@@ -58,7 +69,7 @@ fn way_looked(board: Board, front: Queued, machine: Machine) -> Way
         return Way::Blocked(WaitForm::StillWrites, r);
     }
     let spec = machine.spec_index(class) as u8;
-    let at = units.free_unit(spec);
+    let at = stepping::free_unit(us, ss, n, spec);
     if at < 64 {
         Way::Into(at)
     } else {
@@ -67,15 +78,23 @@ fn way_looked(board: Board, front: Queued, machine: Machine) -> Way
 }
 
 // model: Issue.place
-fn placed(board: Board, front: Queued, at: usize) -> Board
-    requires { ⌜ BoardOk board ⌝ }
+fn placed(
+    board: Sequencer,
+    us: &mut [[u8; 40]],
+    ss: &mut [u64],
+    n: usize,
+    front: Queued,
+    at: usize,
+) -> Sequencer
+    requires { ⌜ Sized (now us) (now ss) ⌝ }
+    requires { ⌜ BoardOk (board-of board (units-of (now us) (now ss) n)) ⌝ }
     requires { ⌜ QueuedOk front ⌝ }
-    requires { ⌜ at < board .units .len ⌝ }
+    requires { ⌜ at < n ⌝ }
     requires { ⌜ All (λ (r : ℕ). r < board .claims .len) (numbers (front .operands)) ⌝ }
-    ensures { λ r. ⌜ Places board front at r ⌝ }
+    ensures is { λ r. ⌜ Places (board-of board (units-of (now (us .entry)) (now (ss .entry)) n)) front at (board-of r (units-of (now (us .exit)) (now (ss .exit)) n)) ⌝ }
+    ensures size { λ r. ⌜ Sized (now (us .exit)) (now (ss .exit)) ⌝ }
 {
     let mut b = board;
-    let units = b.units;
     let claims = b.claims;
     let queue = b.queue;
     let operands = front.operands;
@@ -83,12 +102,11 @@ fn placed(board: Board, front: Queued, at: usize) -> Board
     let sources = operands.sources;
     let destinations = operands.destinations;
     let pending = claims.waits_on(sources, operands.sources_len);
-    let us = units.occupy(at, front, pending);
+    stepping::occupy(us, ss, n, at, front, pending);
     let c = claims.claim_all(destinations, operands.destinations_len, at as u8);
     let q = queue.pop_front();
     let branch = b.marks.branch;
     let system = b.marks.system;
-    b.units = us;
     b.claims = c;
     b.queue = q;
     b.marks.branch = if front.branch { true } else { branch };
@@ -97,11 +115,12 @@ fn placed(board: Board, front: Queued, at: usize) -> Board
 }
 
 // model: Issue.block-issue
-fn blocked(board: Board, form: WaitForm, number: u8) -> Board
-    requires { ⌜ BoardOk board ⌝ }
+fn blocked(board: Sequencer, form: WaitForm, number: u8) -> Sequencer
+    requires { ⌜ QueueOk (board .queue) ⌝ }
+    requires { ⌜ LogOk (board .log) ⌝ }
     requires { ⌜ board .log .traces .len < 130 ⌝ }
     requires { ⌜ (names-register form ≡ true → number < board .claims .len) ⌝ }
-    ensures { λ r. ⌜ Blocks board form number r ⌝ }
+    ensures { λ r. ⌜ ((us : Units) → BoardOk (board-of board us) → Blocks (board-of board us) form number (board-of r us)) ⌝ }
 {
     let mut b = board;
     let queue = b.queue;
@@ -122,27 +141,44 @@ fn blocked(board: Board, form: WaitForm, number: u8) -> Board
 }
 
 // model: Issue.issue-looked
-fn issue_looked(board: Board, front: Queued, machine: Machine) -> Board
-    requires { ⌜ BoardOk board ⌝ }
+fn issue_looked(
+    board: Sequencer,
+    us: &mut [[u8; 40]],
+    ss: &mut [u64],
+    n: usize,
+    front: Queued,
+    machine: Machine,
+) -> Sequencer
+    requires { ⌜ Sized (now us) (now ss) ⌝ }
+    requires { ⌜ BoardOk (board-of board (units-of (now us) (now ss) n)) ⌝ }
     requires { ⌜ MachineOk machine ⌝ }
     requires { ⌜ board .log .traces .len < 130 ⌝ }
-    requires { ⌜ Fronts front board ⌝ }
-    ensures { λ r. ⌜ Goes board machine (λ x s. issue-looked (viewQueued (x .legend) front) (rest (s .queue)) (resolve (s .names) (viewQueued (x .legend) front .info)) s) r ⌝ }
+    requires { ⌜ Fronts front (board-of board (units-of (now us) (now ss) n)) ⌝ }
+    ensures is { λ r. ⌜ Goes (board-of board (units-of (now (us .entry)) (now (ss .entry)) n)) machine (λ x s. issue-looked (viewQueued (x .legend) front) (rest (s .queue)) (resolve (s .names) (viewQueued (x .legend) front .info)) s) (board-of r (units-of (now (us .exit)) (now (ss .exit)) n)) ⌝ }
+    ensures size { λ r. ⌜ Sized (now (us .exit)) (now (ss .exit)) ⌝ }
 {
     let b = looked(board, front);
-    let way = way_looked(b, front, machine);
+    let way = way_looked(b, us, ss, n, front, machine);
     match way {
         Way::Blocked(form, number) => blocked(b, form, number),
-        Way::Into(at) => placed(b, front, at),
+        Way::Into(at) => placed(b, us, ss, n, front, at),
     }
 }
 
 // model: Issue.issue
-pub fn issue(board: Board, machine: Machine) -> Board
-    requires { ⌜ BoardOk board ⌝ }
+pub fn issue(
+    board: Sequencer,
+    us: &mut [[u8; 40]],
+    ss: &mut [u64],
+    n: usize,
+    machine: Machine,
+) -> Sequencer
+    requires { ⌜ Sized (now us) (now ss) ⌝ }
+    requires { ⌜ BoardOk (board-of board (units-of (now us) (now ss) n)) ⌝ }
     requires { ⌜ MachineOk machine ⌝ }
     requires { ⌜ board .log .traces .len < 130 ⌝ }
-    ensures { λ r. ⌜ Issues board machine r ⌝ }
+    ensures is { λ r. ⌜ Issues (board-of board (units-of (now (us .entry)) (now (ss .entry)) n)) machine (board-of r (units-of (now (us .exit)) (now (ss .exit)) n)) ⌝ }
+    ensures size { λ r. ⌜ Sized (now (us .exit)) (now (ss .exit)) ⌝ }
 {
     let queue = board.queue;
     if queue.len == 0 {
@@ -154,5 +190,5 @@ pub fn issue(board: Board, machine: Machine) -> Board
     if board.marks.system {
         return blocked(board, WaitForm::BehindSystem, 0);
     }
-    issue_looked(board, queue.items[0], machine)
+    issue_looked(board, us, ss, n, queue.items[0], machine)
 }

@@ -1,12 +1,12 @@
 // A place of the pool for a new operation.
-use bank::Units;
 use flight::Queue;
 ghost use mathlib.Core.Path.{_≡_};
 ghost use mathlib.Core.List.{List, _++_, _∷_, []};
 ghost use Prim.Native.Nat.{ℕ, _+_, _≤_};
 ghost use lib.ListN.{length};
 ghost use Rattle.flight.specs.View.{QueueOk};
-ghost use Rattle.bank.specs.View.{places, UnitsOk};
+ghost use Rattle.bank.specs.View.{places};
+ghost use Rattle.slots.specs.View.{units-of, Lent};
 ghost use Rattle.places.specs.Places.{queue-places, Marked, Free};
 
 // Which places of the pool are taken.
@@ -16,15 +16,14 @@ pub struct Places {
 
 impl Places {
     // Those of the units.
-    fn of_units(units: Units) -> Places
-        requires { ⌜ UnitsOk units ⌝ }
-        ensures { λ r. ⌜ Marked (places units) r ⌝ }
+    fn of_units(us: &[[u8; 40]], ss: &[u64], n: usize) -> Places
+        requires { ⌜ Lent (now us) (now ss) n ⌝ }
+        ensures { λ r. ⌜ Marked (places (units-of (now (us .entry)) (now (ss .entry)) n)) r ⌝ }
     {
         let mut places = Places { used: [false; 81] };
-        let n = units.len;
         let mut i: usize = 0;
         while i < n {
-            let u = units.items[i];
+            let u = slots::unit_at(us, ss, i);
             let at = u.place as usize;
             places.used[at] = true;
             i += 1;
@@ -67,14 +66,14 @@ impl Places {
 }
 
 // A place of the pool that no operation in flight has, nor the one that left in this cycle.
-pub fn free_place(units: Units, queue: Queue, gone: u8) -> usize
-    requires { ⌜ UnitsOk units ⌝ }
+pub fn free_place(us: &[[u8; 40]], ss: &[u64], n: usize, queue: Queue, gone: u8) -> usize
+    requires { ⌜ Lent (now us) (now ss) n ⌝ }
     requires { ⌜ QueueOk queue ⌝ }
-    requires { ⌜ units .len + queue .len ≤ 78 ⌝ }
+    requires { ⌜ n + queue .len ≤ 78 ⌝ }
     requires { ⌜ gone ≤ 80 ⌝ }
-    ensures { λ r. ⌜ Free ((places units ++ queue-places queue) ++ gone ∷ []) r ⌝ }
+    ensures { λ r. ⌜ Free ((places (units-of (now (us .entry)) (now (ss .entry)) n) ++ queue-places queue) ++ gone ∷ []) r ⌝ }
 {
-    let mut places = Places::of_units(units).and_queue(queue);
+    let mut places = Places::of_units(us, ss, n).and_queue(queue);
     let at = gone as usize;
     places.used[at] = true;
     places.first_free()

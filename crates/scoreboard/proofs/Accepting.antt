@@ -199,7 +199,7 @@ module _ {e : ScoreboardPipeline} (v : Valid e) {o : PipelineOp} {lent : ℕ} (f
     (free : Free (taken-places (e .board)) p)
     (next : pc ≡ sequential-address (viewMaybeNumber (e .machine .«instruction_bytes»)) (viewOp o .decoded))
     (slow : cycles ≡ latency (viewMachine (e .machine) .times) (o .class))
-    (entry : Queueing x o (e .window .next) cycles p q)
+    (entry : Queueing (operands-of x) o (e .window .next) cycles p q)
     (queue : Queues k (entries (e .board .queue) ++ q ∷ []) (λ g. viewQueue g (e .board .queue) ++ viewQueued g q ∷ []))
     (decoded : d ≡ decoded-of o pc)
     (texts : t ≡ texts-of o)

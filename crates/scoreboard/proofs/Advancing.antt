@@ -1,10 +1,9 @@
 -- The rest of a cycle: its checks, and what it leaves where it is refused, where the engine stops, and where it works.
 use Prim.Native.Nat.{ℕ, _*_, _≤_}
 use mathlib.Core.Path.{_≡_, refl, sym, subst, ap, _∙_}
-use mathlib.Core.Bool.{Bool, true, false, cond, not, _&&_, _||_}
+use mathlib.Core.Bool.{true, false, cond, not, _&&_, _||_}
 use mathlib.Core.Option.{Option, none, some}
 use mathlib.Core.List.{List, [], _∷_}
-use native.Mathlib.Omega.{arith}
 use lib.Dec.{ltb, T}
 use lib.ListN.{length}
 use borrow.Author.Tests.{ltb-false}
@@ -39,6 +38,7 @@ use Rattle.model.specs.Calls.{
   memory-after,
 }
 use Rattle.config.specs.View.{viewMachine}
+use Rattle.registers.specs.View.{claimed as index}
 use Rattle.board.specs.declared.Board.{Board}
 use Rattle.board.specs.View.{viewBoard}
 use Rattle.board.specs.Contracts.{Closes}
@@ -48,9 +48,8 @@ use Rattle.scoreboard.specs.declared.Answer.the-variants.{NoInvitation}
 use Rattle.scoreboard.specs.View.{frame-of, viewEngine, viewAnswer}
 use Rattle.scoreboard.specs.Valid.{Parts, Valid}
 use Rattle.scoreboard.specs.Calls.{Does, with-board}
-use Rattle.scoreboard.specs.Advance.{issued, Worked, worked-writes, open-offer}
+use Rattle.scoreboard.specs.Advance.{issued, Worked, worked-writes}
 use Rattle.scoreboard.proofs.Does.{does-taken, memory-kept, memory-set}
-use Rattle.scoreboard.proofs.Answers.{no-index}
 use Rattle.scoreboard.proofs.Fetches.{row-passes, yes-of-not}
 
 -- ── The cycle closes ────────────────────────────────────────────────────────
@@ -99,33 +98,22 @@ module _ (e : ScoreboardPipeline) {b : Board} (cl : Closes (e .board) b) where
 
 -- ── The checks ──────────────────────────────────────────────────────────────
 
--- By an offer, and by how many rows there may be.
-abbrev pub rows-by : Board → ℕ → Bool → ℕ → ℕ → List Check
-rows-by b w retired history lent =
-    (5, not (b .front .«in_cycle»)) ∷ (7, open-offer w retired) ∷ (13, ltb lent (history * 200)) ∷ []
+-- By how many rows there may be.
+abbrev pub rows-by : Board → ℕ → ℕ → List Check
+rows-by b history lent =
+    (5, not (b .front .«in_cycle»)) ∷ (7, not (is-none (index (b .offer .writing))) && not (b .offer .retired)) ∷ (13, ltb lent (history * 200)) ∷ []
 
-module _ {e : ScoreboardPipeline} (v : Valid e) (target : Option ℕ) (lent : ℕ) where
-  pub checked
-      : (w : ℕ) (retired : Bool) → open-offer w retired ≡ open-offer (e .board .offer .writing) (e .board .offer .retired)
-      → first-of (rows-by (e .board) w retired (e .window .history) lent) ≡ refusal (viewEngine e) (advance target lent)
-  unfolding refusal checks unsettled no-offer short-memory viewEngine viewBoard viewMachine
-  checked w retired q =
-      ap (λ x. first-of ((5, not (e .board .front .«in_cycle»)) ∷ (7, x) ∷ (13, ltb lent (e .window .history * 200)) ∷ [])) q
-      ∙ ap (λ n. first-of (rows-by (e .board) (e .board .offer .writing) (e .board .offer .retired) n lent)) (v .parts .history)
+pub checked : {e : ScoreboardPipeline} → Valid e → (target : Option ℕ) (lent : ℕ)
+    → first-of (rows-by (e .board) (e .window .history) lent) ≡ refusal (viewEngine e) (advance target lent)
+unfolding refusal checks unsettled no-offer short-memory viewEngine viewBoard viewMachine
+checked {e} v target lent = ap (λ n. first-of (rows-by (e .board) n lent)) (v .parts .history)
 
-module _ (b : Board) (w : ℕ) (retired : Bool) (history lent : ℕ) (h : first-of (rows-by b w retired history lent) ≡ none) where
+module _ (b : Board) (history lent : ℕ) (h : first-of (rows-by b history lent) ≡ none) where
   pub cycle-open : b .front .«in_cycle» ≡ true
   cycle-open = yes-of-not (b .front .«in_cycle») (row-passes 5 _ h .0)
 
   pub cells-fit : history * 200 ≤ lent
   cells-fit = ltb-false lent (history * 200) (row-passes 13 _ (row-passes 7 _ (row-passes 5 _ h .1) .1) .0)
-
--- Where there is no offer.
-closed-offer : (w : ℕ) (retired : Bool) → 64 ≤ w → open-offer w retired ≡ false
-closed-offer w retired h = ap (λ (o : Option ℕ). not (is-none o) && not retired) (no-index w h)
-
-pub no-open-offer : (w : ℕ) (retired : Bool) → 64 ≤ w → open-offer 64 false ≡ open-offer w retired
-no-open-offer w retired h = closed-offer 64 false (omega arith) ∙ sym (closed-offer w retired h)
 
 pub stops-board : (e : ScoreboardPipeline) → stops (viewEngine e) ≡ e .board .front .halted || e .board .front .faulted
 unfolding viewEngine viewBoard stops

@@ -5,6 +5,7 @@ pub mod Answers
 pub mod Boards
 pub mod Loops
 pub mod Naming
+pub mod Spreading
 pub mod Accepting
 pub mod Fetches
 pub mod Taking

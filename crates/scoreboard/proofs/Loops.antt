@@ -2,7 +2,7 @@
 use Prim.Native.Nat.{ℕ, _%_, _<_}
 use mathlib.Core.Path.{_≡_, refl, sym, subst, ap, _∙_}
 use mathlib.Core.Bool.{true, false, not, _||_}
-use mathlib.Core.List.{[], _∷_}
+use mathlib.Core.List.{List, [], _∷_}
 use mathlib.Core.Option.{Option}
 use native.Mathlib.Omega.{arith}
 use Rattle.laws.specs.Optional.{is-none, omap}
@@ -10,14 +10,18 @@ use Rattle.model.specs.Config.{latency}
 use Rattle.model.specs.State.{State}
 use Rattle.model.specs.Write.{offered-op, start-cycle, retire as do-retire}
 use Rattle.model.specs.Views.{offer-view}
-use Rattle.model.specs.Calls.{first-of, start, retire, advance, fetch, offered, no-offer, checks, refusal, run, reply}
+use Rattle.model.specs.Calls.{first-of, start, retire, advance, fetch, offered, bad-info, too-many, no-offer, checks, refusal, run, reply}
 use Rattle.op.specs.declared.MaybeNumber.{MaybeNumber}
 use Rattle.op.specs.declared.PipelineOp.{PipelineOp}
 use Rattle.op.specs.View.{viewOp}
 use Rattle.config.specs.View.{viewMachine}
+use Rattle.registers.specs.declared.RegisterTable.{RegisterTable}
 use Rattle.registers.specs.View.{viewHeld, claimed as index}
+use Rattle.registers.specs.Contracts.{ResolvedTo}
+use Rattle.flight.specs.declared.pool.Decoded.{Decoded}
 use Rattle.flight.specs.declared.pool.Texts.{Texts}
-use Rattle.flight.specs.Pool.{texts-of}
+use Rattle.flight.specs.Pool.{decoded-of, texts-of}
+use Rattle.timeline.specs.declared.Tracks.{Tracks}
 use Rattle.timeline.specs.declared.RowText.{RowText}
 use Rattle.timeline.specs.declared.Window.{Window}
 use Rattle.timeline.specs.View.{WindowOk, SlotOf, opened}
@@ -28,15 +32,14 @@ use Rattle.board.specs.View.{viewBoard}
 use Rattle.board.specs.Contracts.{Stays, Starts}
 use Rattle.scoreboard.specs.declared.ScoreboardPipeline.{ScoreboardPipeline}
 use Rattle.scoreboard.specs.declared.Answer.{Answer}
-use Rattle.scoreboard.specs.declared.advance.Rest.{Rest}
 use Rattle.scoreboard.specs.declared.fetch.Intake.{Intake}
 use Rattle.scoreboard.specs.View.{frame-of, viewEngine}
 use Rattle.scoreboard.specs.Valid.{Valid}
 use Rattle.scoreboard.specs.Calls.{Does, Tells, with-board}
 use Rattle.scoreboard.specs.Answers.{Offers}
 use Rattle.scoreboard.specs.Fetching.{row-text}
-use Rattle.scoreboard.specs.Advance.{engine-of, Restable, Rests}
-use Rattle.scoreboard.specs.Taking.{Given, given, parts-of, Holds, Takable, taken-engine, Takes}
+use Rattle.scoreboard.specs.Advance.{engine-of, Restable, Rested, Rests}
+use Rattle.scoreboard.specs.Taking.{Given, given, parts-of, resolved-of, Holds, Takable, taken-engine, Takes}
 use Rattle.scoreboard.proofs.Does.{does-taken}
 use Rattle.scoreboard.proofs.Boards.{started-parts, no-offer-outside, still-parts, settled-done, settled-refused}
 
@@ -86,13 +89,13 @@ module _ {e : ScoreboardPipeline} (v : Valid e) where
       }
 
   pub does-advance
-      : {target : Option ℕ} {lent : ℕ} {q r : Rest}
+      : {target : Option ℕ} {lent : ℕ} {q r : Rested}
       → Rests (e .board) (e .window) (e .tracks) (e .machine) (e .table .known) (e .table .held) target lent q → r ≡ q
       → Does e (advance target lent)
       (record { engine = engine-of (r .board) (e .window) (r .tracks) (e .machine) (r .known) (r .held) e; answer = r .answer })
   does-advance {target} {lent} f p =
       subst
-      (λ (x : Rest).
+      (λ (x : Rested).
       Does e (advance target lent)
       (record { engine = engine-of (x .board) (e .window) (x .tracks) (e .machine) (x .known) (x .held) e; answer = x .answer }))
       (sym p)
@@ -101,29 +104,34 @@ module _ {e : ScoreboardPipeline} (v : Valid e) where
   -- ── Fetch ─────────────────────────────────────────────────────────────────
 
   -- The engine holds what it gives.
-  module _ {fixed : MaybeNumber} {cycles : ℕ} {o : PipelineOp} (q : e .machine .«instruction_bytes» ≡ fixed)
-      (s : cycles ≡ latency (viewMachine (e .machine) .times) (o .class)) where
-    pub holding : Holds (given (e .board) (e .window) (e .tracks) (e .decoded) (e .table) fixed cycles o) e
-    holding = record { valid = v; fixed = q; slow = s }
+  module _ {read written : List ℕ} {fixed : MaybeNumber} {cycles : ℕ} {o : PipelineOp} {after : RegisterTable}
+      (q : e .machine .«instruction_bytes» ≡ fixed) (s : cycles ≡ latency (viewMachine (e .machine) .times) (o .class))
+      (x : bad-info (viewOp o .info) ≡ false → too-many (viewOp o .info) ≡ false
+      → ResolvedTo (e .table) (viewOp o .info) (resolved-of (given (e .board) (e .window) (e .tracks) read written fixed cycles o) after)) where
+    pub holding : Holds (given (e .board) (e .window) (e .tracks) read written fixed cycles o) e after
+    holding = record { valid = v; fixed = q; slow = s; numbers = x }
 
-    pub takable : Takable (given (e .board) (e .window) (e .tracks) (e .decoded) (e .table) fixed cycles o)
-    takable = record { engine = e; holds = holding }
+    pub takable : Takable (given (e .board) (e .window) (e .tracks) read written fixed cycles o)
+    takable = record { engine = e; after = after; holds = holding }
 
-abbrev Leaves : Given → ℕ → Intake → ScoreboardPipeline → Answer → Window → ℕ → Texts → RowText → Type 0
-Leaves g lent r e a w s t x = Does (parts-of g e) (fetch (viewOp (g .op)) lent) (record { engine = taken-engine r w s t x e; answer = a })
+abbrev Leaves : Given → ℕ → Intake → Tracks → RegisterTable → ScoreboardPipeline → Answer → Window → ℕ → Decoded → Texts → RowText → Type 0
+Leaves g lent r ts after e a w s d t x =
+    Does (parts-of g e) (fetch (viewOp (g .op)) lent) (record { engine = taken-engine g r ts after w s d t x e; answer = a })
 
--- The text and the row are those of the operation, the row stands in the slot of its number, and the window is opened.
+-- What stands at its place and the row are those of the operation, the row stands in the slot of its number, and the window is opened.
 pub does-fetch
-    : {g : Given} {lent : ℕ} {r : Intake} → Takes g lent r → r .no ≡ 0 → {e : ScoreboardPipeline} → Holds g e
-    → {w : Window} {s : ℕ} {t : Texts} {x : RowText} {a : Answer} → w ≡ opened (g .window) → s ≡ g .window .next % g .window .history
-    → t ≡ texts-of (g .op) → x ≡ row-text (g .op) → Tells (r .no) a
-    → Does (parts-of g e) (fetch (viewOp (g .op)) lent) (record { engine = taken-engine r w s t x e; answer = a })
-does-fetch {g} {lent} {r} k z {e} h {w} {s} {t} {x} {a} p q i j d =
-    subst (λ (u : Window). Leaves g lent r e a u s t x) (sym p)
-    (subst (λ (n : ℕ). Leaves g lent r e a (opened (g .window)) n t x) (sym q)
-    (subst (λ (y : Texts). Leaves g lent r e a (opened (g .window)) (g .window .next % g .window .history) y x) (sym i)
-    (subst (λ (y : RowText). Leaves g lent r e a (opened (g .window)) (g .window .next % g .window .history) (texts-of (g .op)) y) (sym j)
-    (k .takes z e h a d))))
+    : {g : Given} {lent : ℕ} {r : Intake} {ts : Tracks} → Takes g lent r ts → r .no ≡ 0 → {e : ScoreboardPipeline} {after : RegisterTable} → Holds g e after
+    → {w : Window} {s : ℕ} {d : Decoded} {t : Texts} {x : RowText} {a : Answer} → w ≡ opened (g .window)
+    → s ≡ g .window .next % g .window .history → d ≡ decoded-of (g .op) (r .board .«fetch_pc») → t ≡ texts-of (g .op) → x ≡ row-text (g .op)
+    → Tells (r .no) a
+    → Does (parts-of g e) (fetch (viewOp (g .op)) lent) (record { engine = taken-engine g r ts after w s d t x e; answer = a })
+does-fetch {g} {lent} {r} {ts} k z {e} {after = f} h {w} {s} {d} {t} {x} {a} p q m i j y =
+    subst (λ (u : Window). Leaves g lent r ts f e a u s d t x) (sym p)
+    (subst (λ (n : ℕ). Leaves g lent r ts f e a (opened (g .window)) n d t x) (sym q)
+    (subst (λ (u : Decoded). Leaves g lent r ts f e a (opened (g .window)) (g .window .next % g .window .history) u t x) (sym m)
+    (subst (λ (u : Texts). Leaves g lent r ts f e a (opened (g .window)) (g .window .next % g .window .history) (decoded-of (g .op) (r .board .«fetch_pc»)) u x) (sym i)
+    (subst (λ (u : RowText). Leaves g lent r ts f e a (opened (g .window)) (g .window .next % g .window .history) (decoded-of (g .op) (r .board .«fetch_pc»)) (texts-of (g .op)) u) (sym j)
+    (k .takes z e f h a y)))))
 
 -- The slot of a row.
 pub slot-there : {w : Window} → WindowOk w → {i s : ℕ} → SlotOf w i s → s < 256

@@ -1,28 +1,29 @@
 -- What the rest of a cycle says, where it is not refused and the engine does not stop.
 use Prim.Native.Nat.{ℕ}
 use mathlib.Core.Path.{_≡_}
-use mathlib.Core.Bool.{Bool, true, false, not, _&&_, _||_}
-use mathlib.Core.Option.{Option, none, some}
+use mathlib.Core.Bool.{true, false, _||_}
+use mathlib.Core.Option.{Option}
 use mathlib.Core.List.{List, [], _++_, map}
 use lib.ListN.{length}
-use Rattle.laws.specs.Optional.{is-none, when-some}
+use Rattle.laws.specs.Optional.{when-some}
 use Rattle.model.specs.Op.{Op}
-use Rattle.model.specs.Timeline.{Write, write-all}
+use Rattle.model.specs.Timeline.{Write}
 use Rattle.model.specs.State.{State}
 use Rattle.model.specs.Issue.{flushed-cell, issue, redirect-writes, timeline-writes}
 use Rattle.model.specs.Scoreboard.{closed, before-issue, after-issue}
 use Rattle.model.specs.Calls.{advance, invitation, invitation-of, memory-after}
 use Rattle.config.specs.declared.Machine.{Machine}
 use Rattle.config.specs.Kept.{MachineOk}
-use Rattle.registers.specs.View.{claimed as index}
 use Rattle.timeline.specs.declared.Tracks.{Tracks}
 use Rattle.timeline.specs.declared.Window.{Window}
 use Rattle.timeline.specs.View.{WindowOk, TracksOk}
 use Rattle.board.specs.declared.Board.{Board}
-use Rattle.board.specs.View.{BoardOk}
+use Rattle.bank.specs.declared.Units.{Units}
+use Rattle.board.specs.View.{board-of, BoardOk}
 use Rattle.board.specs.Contracts.{Open}
 use Rattle.scoreboard.specs.declared.advance.Rest.{Rest}
 use Rattle.scoreboard.specs.declared.ScoreboardPipeline.{ScoreboardPipeline}
+use Rattle.scoreboard.specs.declared.Answer.{Answer}
 use Rattle.scoreboard.specs.declared.Next.{Next}
 use Rattle.scoreboard.specs.View.{viewEngine, viewAnswer}
 use Rattle.scoreboard.specs.Valid.{Parts, Valid}
@@ -50,10 +51,6 @@ worked-writes r s = redirect-writes r (closed s) ++ timeline-writes (issued r s)
 abbrev pub window-of : ℕ → ℕ → ℕ → Window
 window-of next rows history = record { next = next; held = rows; history = history }
 
--- Is there an offer that was not retired?
-abbrev pub open-offer : ℕ → Bool → Bool
-open-offer w retired = not (is-none (index w)) && not retired
-
 -- The engine with these parts, else as it is.
 abbrev pub engine-of : Board → Window → Tracks → Machine → ℕ → ℕ → ScoreboardPipeline → ScoreboardPipeline
 engine-of b w ts m known held e =
@@ -76,8 +73,19 @@ pub record Restable (b : Board) (w : Window) (ts : Tracks) (m : Machine) : Type 
   pub machine : MachineOk m
   pub begun : b .front .«in_cycle» ≡ true → b .front .halted || b .front .faulted ≡ false → Open b
 
+-- What it hands back: parts of the engine after it, and its answer.
+pub record Rested : Type 0 where
+  pub board : Board
+  pub tracks : Tracks
+  pub known : ℕ
+  pub held : ℕ
+  pub answer : Answer
+
+abbrev pub rested : Rest → Units → Tracks → Rested
+rested r us ts = record { board = board-of (r .board) us; tracks = ts; known = r .known; held = r .held; answer = r .answer }
+
 -- It is the advance of every engine with these parts.
-abbrev pub Rests : Board → Window → Tracks → Machine → ℕ → ℕ → Option ℕ → ℕ → Rest → Type 0
+abbrev pub Rests : Board → Window → Tracks → Machine → ℕ → ℕ → Option ℕ → ℕ → Rested → Type 0
 Rests b w ts m known held target lent r =
     (e : ScoreboardPipeline) → Valid (engine-of b w ts m known held e)
     → Does (engine-of b w ts m known held e) (advance target lent)

@@ -1,7 +1,7 @@
 -- A new engine of a machine, and the answers about the result on offer, whatever texts and names stand behind the numbers.
 use Prim.Native.Nat.{ℕ}
 use mathlib.Core.Path.{_≡_}
-use mathlib.Core.Bool.{Bool, true, false}
+use mathlib.Core.Bool.{false}
 use mathlib.Core.Option.{Option, none}
 use mathlib.Core.List.{List, []}
 use Rattle.laws.specs.Optional.{omap}
@@ -10,7 +10,7 @@ use Rattle.model.specs.Config.{Machine}
 use Rattle.model.specs.Op.{Op}
 use Rattle.model.specs.Units.{build-units, unit-at}
 use Rattle.model.specs.State.{no-stats, marks, offer-of, front-of, log-of, State, state}
-use Rattle.model.specs.Write.{resolve-branch, start-cycle}
+use Rattle.model.specs.Write.{resolve-branch}
 use Rattle.model.specs.Views.{OfferView as ModelOffer, offer-view}
 use Rattle.model.specs.Calls.{offered, resolved}
 use Rattle.registers.specs.View.{claimed as index}
@@ -21,11 +21,7 @@ use Rattle.flight.specs.Pool.{legend}
 use Rattle.units.specs.declared.Unit.{Unit as Slot}
 use Rattle.bank.specs.declared.Units.{Units}
 use Rattle.bank.specs.View.{viewUnits}
-use Rattle.board.specs.declared.Board.{Board}
-use Rattle.board.specs.Contracts.{Starts}
 use Rattle.scoreboard.specs.declared.Answer.{Answer}
-use Rattle.scoreboard.specs.declared.Answer.the-variants.{Refused}
-use Rattle.scoreboard.specs.declared.Begun.{Begun}
 use Rattle.scoreboard.specs.View.{viewAnswer}
 
 -- State.new, of the machine
@@ -56,9 +52,3 @@ Offers us ds w r = (ts : TextPool) (ns : List Text) → viewAnswer r ≡ offered
 
 abbrev pub Resolves : Units → DecodedPool → ℕ → ℕ → Answer → Type 0
 Resolves us ds w actual r = (ts : TextPool) (ns : List Text) → viewAnswer r ≡ resolved (resolve-branch (op-on-offer ds ts ns us w) actual)
-
--- A start that is refused leaves the board; else the cycle opens.
-pub record Begins (b : Board) (ds : DecodedPool) (no-start : Bool) (n : ℕ) (r : Begun) : Type 0 where
-  pub refuses : no-start ≡ true → r ≡ record { board = b; answer = Refused n }
-  pub starts : no-start ≡ false → Starts b (r .board) start-cycle
-  pub offers : no-start ≡ false → Offers (r .board .units) ds (r .board .offer .writing) (r .answer)

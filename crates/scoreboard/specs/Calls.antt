@@ -9,6 +9,7 @@ use Rattle.model.specs.State.{new}
 use Rattle.model.specs.Calls.{Call, retire, make-refusal, refused, done, refusal, answer, after}
 use Rattle.checks.specs.Numbered.{numbered}
 use Rattle.board.specs.declared.Board.{Board}
+use Rattle.board.specs.View.{board-of}
 use Rattle.scoreboard.specs.declared.ScoreboardPipeline.{ScoreboardPipeline}
 use Rattle.scoreboard.specs.declared.Answer.{Answer}
 use Rattle.scoreboard.specs.declared.Next.{Next}
@@ -52,4 +53,4 @@ with-board b e =
 abbrev pub Retires : Board → Settled → Type 0
 Retires b r =
     (e : ScoreboardPipeline) → Valid (with-board b e) → (a : Answer) → Tells (r .no) a
-    → Does (with-board b e) retire (record { engine = with-board (r .board) e; answer = a })
+    → Does (with-board b e) retire (record { engine = with-board (board-of (r .board) (b .units)) e; answer = a })

@@ -2,6 +2,7 @@
 use Prim.Native.Nat.{ℕ, _*_, _≤_, _<_}
 use mathlib.Core.Path.{_≡_}
 use mathlib.Core.Bool.{true, false}
+use mathlib.Core.List.{List}
 use Rattle.laws.specs.Numbers.{max64}
 use Rattle.model.specs.Calls.{bad-info}
 use Rattle.model.specs.Scoreboard.{fetched}
@@ -17,7 +18,7 @@ use Rattle.scoreboard.specs.declared.ScoreboardPipeline.{ScoreboardPipel
 use Rattle.scoreboard.specs.View.{viewEngine}
 use Rattle.scoreboard.specs.Valid.{Parts}
 
--- The entry of an operation, by the numbers of its registers.
+-- The numbers of an operation's registers.
 abbrev pub operands-of : Resolved → Operands
 operands-of r =
     record {
@@ -27,11 +28,17 @@ operands-of r =
       «destinations_len» = r .«destinations_len»;
     }
 
-abbrev pub entry-of : Resolved → PipelineOp → ℕ → ℕ → ℕ → Queued
-entry-of r o seq latency place =
+-- As many as it has.
+abbrev pub operands-by : List ℕ → List ℕ → PipelineOp → Operands
+operands-by read written o =
+    record { sources = read; destinations = written; «sources_len» = o .«sources_len»; «destinations_len» = o .«writes_len» }
+
+-- The entry of an operation, by the numbers of its registers.
+abbrev pub entry-of : Operands → PipelineOp → ℕ → ℕ → ℕ → Queued
+entry-of p o seq latency place =
     record {
       seq = seq;
-      operands = operands-of r;
+      operands = p;
       class = o .class;
       branch = o .branch;
       hazard = Nothing;
@@ -39,8 +46,8 @@ entry-of r o seq latency place =
       place = place;
     }
 
-pub record Queueing (x : Resolved) (o : PipelineOp) (seq latency place : ℕ) (r : Queued) : Type 0 where
-  pub is : r ≡ entry-of x o seq latency place
+pub record Queueing (p : Operands) (o : PipelineOp) (seq latency place : ℕ) (r : Queued) : Type 0 where
+  pub is : r ≡ entry-of p o seq latency place
   pub ok : QueuedOk r
 
 -- What stays of its row.

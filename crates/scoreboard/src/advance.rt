@@ -2,11 +2,10 @@
 use crate::Answer;
 use crate::Next;
 use crate::ScoreboardPipeline;
-use board::Board;
+use board::Sequencer;
 use config::Machine;
 use flight::Queue;
 use op::MaybeNumber;
-use timeline::Tracks;
 use timeline::Window;
 ghost use mathlib.Core.Path.{_≡_};
 ghost use Prim.Native.Nat.{ℕ, _*_, _≤_};
@@ -14,33 +13,38 @@ ghost use lib.ListN.{length};
 ghost use Rattle.laws.specs.Optional.{when-some};
 ghost use Rattle.model.specs.Calls.{advance, memory-after, invitation, invitation-of};
 ghost use Rattle.op.specs.View.{viewMaybeNumber};
-ghost use Rattle.timeline.specs.View.{WindowOk, TracksOk};
+ghost use Rattle.timeline.specs.View.{WindowOk};
+ghost use Rattle.tracks.specs.View.{tracks-of, TracksSized, TracksLent};
 ghost use Rattle.flight.specs.View.{Legend, viewQueue, QueueOk};
 ghost use Rattle.recording.specs.Recorded.{Recorded, Written};
-ghost use Rattle.board.specs.View.{Frame, viewBoard};
+ghost use Rattle.bank.specs.declared.Units.{Units};
+ghost use Rattle.slots.specs.View.{units-of, Sized};
+ghost use Rattle.board.specs.View.{Frame, viewBoard, board-of};
 ghost use Rattle.scoreboard.specs.View.{viewEngine, viewAnswer};
 ghost use Rattle.scoreboard.specs.Valid.{Valid};
 ghost use Rattle.scoreboard.specs.Calls.{Does};
-ghost use Rattle.scoreboard.specs.Advance.{dropped-cells, window-of, open-offer, Restable, Rests, RestWrites};
+ghost use Rattle.scoreboard.specs.Advance.{dropped-cells, window-of, Restable, rested, Rests, RestWrites};
 
 // The rows after a redirect, if there is one: an FL cell for each queued operation.
 fn flushed_rows(
-    tracks: Tracks,
+    ts: &mut [[u8; 2]],
+    fs: &mut [u64],
     window: Window,
     queue: Queue,
     redirect: MaybeNumber,
     cells: &mut [u8],
-) -> Tracks
+)
     requires { ⌜ WindowOk window ⌝ }
-    requires { ⌜ TracksOk tracks ⌝ }
+    requires { ⌜ TracksLent (now ts) (now fs) ⌝ }
     requires { ⌜ QueueOk queue ⌝ }
     requires { ⌜ window .history * 200 ≤ length (now cells) ⌝ }
-    ensures tracks { λ r. ⌜ ((g : Legend) → Recorded window (dropped-cells (viewMaybeNumber redirect) (viewQueue g queue)) tracks r) ⌝ }
-    ensures memory { λ r. ⌜ ((g : Legend) → Written window (dropped-cells (viewMaybeNumber redirect) (viewQueue g queue)) tracks (now (cells .entry)) (now (cells .exit))) ⌝ }
+    ensures tracks { λ r. ⌜ ((g : Legend) → Recorded window (dropped-cells (viewMaybeNumber redirect) (viewQueue g queue)) (tracks-of (now (ts .entry)) (now (fs .entry))) (tracks-of (now (ts .exit)) (now (fs .exit)))) ⌝ }
+    ensures memory { λ r. ⌜ ((g : Legend) → Written window (dropped-cells (viewMaybeNumber redirect) (viewQueue g queue)) (tracks-of (now (ts .entry)) (now (fs .entry))) (now (cells .entry)) (now (cells .exit))) ⌝ }
+    ensures lent { λ r. ⌜ TracksLent (now (ts .exit)) (now (fs .exit)) ⌝ }
 {
     match redirect {
-        MaybeNumber::Some(_) => recording::push_flushed(tracks, window, queue, cells),
-        MaybeNumber::Nothing => tracks,
+        MaybeNumber::Some(_) => recording::push_flushed(ts, fs, window, queue, cells),
+        MaybeNumber::Nothing => {}
     }
 }
 
@@ -55,8 +59,8 @@ fn held_after(held: usize, known: usize, redirect: MaybeNumber) -> usize
 }
 
 // model: Calls.invitation-of
-fn invitation(board: Board) -> Answer
-    ensures { λ r. ⌜ ((x : Frame) → viewAnswer r ≡ invitation (invitation-of (viewBoard x board))) ⌝ }
+fn invitation(board: Sequencer) -> Answer
+    ensures { λ r. ⌜ ((x : Frame) (us : Units) → viewAnswer r ≡ invitation (invitation-of (viewBoard x (board-of board us)))) ⌝ }
 {
     if board.front.invited {
         Answer::Invitation(board.fetch_pc)
@@ -67,76 +71,81 @@ fn invitation(board: Board) -> Answer
 
 // What an advance changes, and its answer.
 pub struct Rest {
-    pub board: Board,
+    pub board: Sequencer,
     pub known: usize,
-    pub tracks: Tracks,
     pub held: usize,
     pub answer: Answer,
 }
 
-// The rest of a cycle. `writing` and `retired` tell of the offer; `next`, `rows` and `history` are the window. It has two call sites, so that it
-// stays a call, and takes numbers rather than a window, so that less is copied to it (docs/DECISIONS.md, 57).
+// The rest of a cycle. `next`, `rows` and `history` are the window.
 // model: Calls.after, Calls.answer and Calls.memory-after, of advance
 pub fn advanced(
-    board: Board,
-    writing: usize,
-    retired: bool,
+    board: Sequencer,
+    us: &mut [[u8; 40]],
+    ss: &mut [u64],
+    n: usize,
+    ts: &mut [[u8; 2]],
+    fs: &mut [u64],
     next: u64,
     rows: usize,
     history: usize,
-    tracks: Tracks,
     machine: Machine,
     known: usize,
     held: usize,
     redirect: MaybeNumber,
     cells: &mut [u8],
 ) -> Rest
-    requires { ⌜ Restable board (window-of next rows history) tracks machine ⌝ }
-    requires { ⌜ open-offer writing retired ≡ open-offer (board .offer .writing) (board .offer .retired) ⌝ }
-    ensures done { λ r. ⌜ Rests board (window-of next rows history) tracks machine known held (viewMaybeNumber redirect) (length (now (cells .entry))) r ⌝ }
-    ensures memory { λ r. ⌜ RestWrites board (window-of next rows history) tracks machine known held (viewMaybeNumber redirect) (now (cells .entry)) (now (cells .exit)) ⌝ }
+    requires { ⌜ Sized (now us) (now ss) ⌝ }
+    requires { ⌜ TracksSized (now ts) (now fs) ⌝ }
+    requires { ⌜ Restable (board-of board (units-of (now us) (now ss) n)) (window-of next rows history) (tracks-of (now ts) (now fs)) machine ⌝ }
+    ensures done { λ r. ⌜ Rests (board-of board (units-of (now (us .entry)) (now (ss .entry)) n)) (window-of next rows history) (tracks-of (now (ts .entry)) (now (fs .entry))) machine known held (viewMaybeNumber redirect) (length (now (cells .entry))) (rested r (units-of (now (us .exit)) (now (ss .exit)) n) (tracks-of (now (ts .exit)) (now (fs .exit)))) ⌝ }
+    ensures memory { λ r. ⌜ RestWrites (board-of board (units-of (now (us .entry)) (now (ss .entry)) n)) (window-of next rows history) (tracks-of (now (ts .entry)) (now (fs .entry))) machine known held (viewMaybeNumber redirect) (now (cells .entry)) (now (cells .exit)) ⌝ }
+    ensures units { λ r. ⌜ Sized (now (us .exit)) (now (ss .exit)) ⌝ }
+    ensures tracks { λ r. ⌜ TracksSized (now (ts .exit)) (now (fs .exit)) ⌝ }
 {
     let window = Window {
         next,
         held: rows,
         history,
     };
-    let no = checks::advance(board.front.in_cycle, writing, retired, cells.len(), history);
+    let no = checks::advance(
+        board.front.in_cycle,
+        board.offer.writing,
+        board.offer.retired,
+        cells.len(),
+        history,
+    );
     if no != 0 {
         return Rest {
             board,
             known,
-            tracks,
             held,
             answer: Answer::Refused(no),
         };
     }
-    let b = board.closed();
+    let b = board.closed(us, ss, n);
     if board.front.stops() {
         return Rest {
             board: b,
             known,
-            tracks,
             held,
             answer: Answer::NoInvitation,
         };
     }
     let queue = b.queue;
-    let tracks1 = flushed_rows(tracks, window, queue, redirect, cells);
-    let worked = cycle::stepped(b.redirected(redirect));
-    let issued = issuing::issue(worked, machine);
-    let after = issued.invite(machine.depth);
+    flushed_rows(ts, fs, window, queue, redirect, cells);
+    let worked = cycle::stepped(b.redirected(redirect), us, ss, n);
+    let issued = issuing::issue(worked, us, ss, n, machine);
+    let after = issued.invite(us, ss, n, machine.depth);
     let queue1 = after.queue;
-    let units = after.units;
-    let tracks2 = recording::push_queue(tracks1, window, queue1, cells);
-    let tracks3 = recording::push_units(tracks2, window, units, cells);
+    recording::push_queue(ts, fs, window, queue1, cells);
+    recording::push_units(ts, fs, window, us, ss, n, cells);
     let claims = after.claims;
     let kept = held_after(held, known, redirect);
     let answer = invitation(after);
     Rest {
         board: after,
         known: claims.len,
-        tracks: tracks3,
         held: kept,
         answer,
     }
@@ -152,49 +161,36 @@ impl ScoreboardPipeline {
         let board = self.board;
         let tracks = self.tracks;
         let machine = self.machine;
-        let next = self.window.next;
-        let rows = self.window.held;
-        let history = self.window.history;
-        let known = self.table.known;
-        let held = self.table.held;
-        let writing = board.offer.writing;
-        let r = if writing < 64 {
-            let retired = board.offer.retired;
-            advanced(
-                board,
-                writing,
-                retired,
-                next,
-                rows,
-                history,
-                tracks,
-                machine,
-                known,
-                held,
-                redirect,
-                cells,
-            )
-        } else {
-            advanced(
-                board,
-                64,
-                false,
-                next,
-                rows,
-                history,
-                tracks,
-                machine,
-                known,
-                held,
-                redirect,
-                cells,
-            )
-        };
+        let units = board.units;
+        let n = units.len;
+        let mut us = [[0u8; 40]; 64];
+        let mut ss = [0u64; 64];
+        slots::spread(units, &mut us, &mut ss);
+        let mut ts = [[0u8; 2]; 256];
+        let mut fs = [0u64; 256];
+        tracks::spread(tracks, &mut ts, &mut fs);
+        let r = advanced(
+            Sequencer::of(board),
+            &mut us,
+            &mut ss,
+            n,
+            &mut ts,
+            &mut fs,
+            self.window.next,
+            self.window.held,
+            self.window.history,
+            machine,
+            self.table.known,
+            self.table.held,
+            redirect,
+            cells,
+        );
         let after = r.board;
-        let tracks1 = r.tracks;
         let answer = r.answer;
-        self.board = after;
-        self.tracks = tracks1;
+        let b = after.board(slots::gathered(&us, &ss, n));
+        let t = tracks::gathered(&ts, &fs);
+        self.board = b;
+        self.tracks = t;
         self.table.known = r.known;
         self.table.held = r.held;
         Next {

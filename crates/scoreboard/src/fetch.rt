@@ -1,51 +1,56 @@
 // A fetch: the operation's names become numbers, and it goes into the queue with a place in the pool.
+use crate::Answer;
 use crate::Next;
 use crate::ScoreboardPipeline;
 use crate::done_or;
-use board::Board;
+use board::Sequencer;
 use flight::MaybeHazard;
 use flight::Operands;
 use flight::Queued;
 use flight::pool::Decoded;
-use flight::pool::DecodedPool;
 use flight::pool::Texts;
 use op::MaybeNumber;
 use op::PipelineOp;
-use registers::RegisterTable;
-use registers::Resolved;
 use timeline::RowText;
-use timeline::Tracks;
 use timeline::Window;
 ghost use mathlib.Core.Path.{_≡_};
 ghost use lib.ListN.{length};
 ghost use mathlib.Core.Bool.{false};
-ghost use Prim.Native.Nat.{_<_};
+ghost use Prim.Native.Nat.{_<_, _≤_};
 ghost use Rattle.laws.specs.Means.{Means};
 ghost use Rattle.model.specs.Calls.{fetch, bad-info, memory-after};
-ghost use Rattle.registers.specs.Contracts.{OperandsOk};
 ghost use Rattle.timeline.specs.View.{RowTextOk};
 ghost use Rattle.op.specs.View.{viewOp};
+ghost use Rattle.tracks.specs.View.{tracks-of, TracksSized};
+ghost use Rattle.slots.specs.View.{units-of, Sized};
+ghost use Rattle.board.specs.View.{board-of};
 ghost use Rattle.scoreboard.specs.View.{viewEngine};
 ghost use Rattle.scoreboard.specs.Valid.{Valid};
 ghost use Rattle.scoreboard.specs.Calls.{Does};
 ghost use Rattle.scoreboard.specs.Advance.{window-of};
-ghost use Rattle.scoreboard.specs.Fetching.{row-text, Queueing};
+ghost use Rattle.scoreboard.specs.Fetching.{row-text, operands-by, Queueing};
 ghost use Rattle.scoreboard.specs.Taking.{given, Takable, Takes, TakeWrites};
 
 // model: Scoreboard.fetched-op
-fn queued(resolved: Resolved, op: PipelineOp, seq: u64, latency: u8, place: usize) -> Queued
-    requires { ⌜ OperandsOk resolved ⌝ }
+fn queued(
+    sources: [u8; 8],
+    destinations: [u8; 4],
+    op: PipelineOp,
+    seq: u64,
+    latency: u8,
+    place: usize,
+) -> Queued
+    requires { ⌜ op .«sources_len» ≤ 8 ⌝ }
+    requires { ⌜ op .«writes_len» ≤ 4 ⌝ }
     requires { ⌜ place < 80 ⌝ }
-    ensures { λ r. ⌜ Queueing resolved op seq latency place r ⌝ }
+    ensures { λ r. ⌜ Queueing (operands-by sources destinations op) op seq latency place r ⌝ }
 {
-    let sources = resolved.sources;
-    let destinations = resolved.destinations;
     let class = op.class;
     let operands = Operands {
         sources,
         destinations,
-        sources_len: resolved.sources_len,
-        destinations_len: resolved.destinations_len,
+        sources_len: op.sources_len,
+        destinations_len: op.writes_len,
     };
     Queued {
         seq,
@@ -73,55 +78,52 @@ pub fn row_of(op: PipelineOp) -> RowText
     }
 }
 
-// What a fetch changes, but for the text of `place` and the row of its number, which the caller sets; where `no` is not 0, what came in.
+// What a fetch changes, but for what stands at `place` in the pool and the row of its number, which the caller sets; where `no` is not 0, what came in.
 pub struct Intake {
-    pub board: Board,
-    pub table: RegisterTable,
-    pub decoded: DecodedPool,
-    pub tracks: Tracks,
+    pub board: Sequencer,
     pub place: usize,
     pub no: u8,
 }
 
-// A fetch. `next`, `rows` and `history` are the window; `fixed` is the machine's length of an operation, `latency` that of its class. It has two
-// call sites, so that it stays a call (docs/DECISIONS.md, 57).
+// A fetch, where the operation's names are known to fit: `sources` and `destinations` are their numbers. `next`, `rows` and `history` are the window;
+// `fixed` is the machine's length of an operation, `latency` that of its class. It has two call sites, so that it stays a call (docs/DECISIONS.md, 57).
 // model: Calls.refusal, Calls.memory-after, of fetch; Scoreboard.fetched
 pub fn taken(
-    board: Board,
+    board: Sequencer,
+    us: &[[u8; 40]],
+    ss: &[u64],
+    n: usize,
+    ts: &mut [[u8; 2]],
+    fs: &mut [u64],
     next: u64,
     rows: usize,
     history: usize,
-    tracks: Tracks,
-    decoded: DecodedPool,
-    table: RegisterTable,
+    sources: [u8; 8],
+    destinations: [u8; 4],
     fixed: MaybeNumber,
     latency: u8,
     op: PipelineOp,
     cells: &mut [u8],
 ) -> Intake
-    requires { ⌜ Takable (given board (window-of next rows history) tracks decoded table fixed latency op) ⌝ }
-    ensures done { λ r. ⌜ Takes (given board (window-of next rows history) tracks decoded table fixed latency op) (length (now (cells .entry))) r ⌝ }
-    ensures memory { λ r. ⌜ TakeWrites (given board (window-of next rows history) tracks decoded table fixed latency op) (now (cells .entry)) (now (cells .exit)) ⌝ }
+    requires { ⌜ Sized (now us) (now ss) ⌝ }
+    requires { ⌜ TracksSized (now ts) (now fs) ⌝ }
+    requires { ⌜ Takable (given (board-of board (units-of (now us) (now ss) n)) (window-of next rows history) (tracks-of (now ts) (now fs)) sources destinations fixed latency op) ⌝ }
+    ensures done { λ r. ⌜ Takes (given (board-of board (units-of (now (us .entry)) (now (ss .entry)) n)) (window-of next rows history) (tracks-of (now (ts .entry)) (now (fs .entry))) sources destinations fixed latency op) (length (now (cells .entry))) r (tracks-of (now (ts .exit)) (now (fs .exit))) ⌝ }
+    ensures memory { λ r. ⌜ TakeWrites (given (board-of board (units-of (now (us .entry)) (now (ss .entry)) n)) (window-of next rows history) (tracks-of (now (ts .entry)) (now (fs .entry))) sources destinations fixed latency op) (now (cells .entry)) (now (cells .exit)) ⌝ }
+    ensures tracks { λ r. ⌜ TracksSized (now (ts .exit)) (now (fs .exit)) ⌝ }
 {
     let first = checks::fetch(board.front.in_cycle, board.front.invited, op, next);
     if first != 0 {
         return Intake {
             board,
-            table,
-            decoded,
-            tracks,
             place: 80,
             no: first,
         };
     }
-    let resolved = table.resolve(op);
-    let no = checks::fetch_names(resolved.fits, cells.len(), history);
+    let no = checks::fetch_names(true, cells.len(), history);
     if no != 0 {
         return Intake {
             board,
-            table,
-            decoded,
-            tracks,
             place: 80,
             no,
         };
@@ -131,26 +133,18 @@ pub fn taken(
         held: rows,
         history,
     };
-    let units = board.units;
     let queue = board.queue;
-    let place = places::free_place(units, queue, board.gone);
+    let place = places::free_place(us, ss, n, queue, board.gone);
     let pc = op.sequential_address(fixed);
-    let q = queued(resolved, op, next, latency, place);
+    let q = queued(sources, destinations, op, next, latency, place);
     let queue1 = queue.push_back(q);
-    let d = Decoded::of(op, pc);
-    let tracks1 = tracks.open(window, board.log.stats.cycles, cells);
-    let names = resolved.table;
-    let mut ds = decoded;
-    ds.items[place] = d;
+    tracks::open(ts, fs, window, board.log.stats.cycles, cells);
     let mut b = board;
     b.queue = queue1;
     b.fetch_pc = pc;
     b.front.invited = false;
     Intake {
         board: b,
-        table: names,
-        decoded: ds,
-        tracks: tracks1,
         place,
         no: 0,
     }
@@ -165,66 +159,82 @@ impl ScoreboardPipeline {
     {
         let board = self.board;
         let tracks = self.tracks;
-        let decoded = self.decoded;
         let machine = self.machine;
         let table = self.table;
         let window = self.window;
         let next = window.next;
-        let rows = window.held;
-        let history = window.history;
         let fixed = machine.instruction_bytes;
         let class = op.class;
-        let latency = machine.latency(class);
-        let r = match fixed {
-            MaybeNumber::Some(n) => taken(
-                board,
-                next,
-                rows,
-                history,
-                tracks,
-                decoded,
-                table,
-                MaybeNumber::Some(n),
-                latency,
-                op,
-                cells,
-            ),
-            MaybeNumber::Nothing => taken(
-                board,
-                next,
-                rows,
-                history,
-                tracks,
-                decoded,
-                table,
-                MaybeNumber::Nothing,
-                latency,
-                op,
-                cells,
-            ),
-        };
-        let no = r.no;
-        if no == 0 {
-            let mut texts = self.texts;
-            let mut lines = self.rows;
-            let place = r.place;
-            let s = window.slot(next);
-            let t = Texts::of(op);
-            let x = row_of(op);
-            texts.items[place] = t;
-            lines.items[s] = x;
-            self.texts = texts;
-            self.rows = lines;
-            self.window = window.opened();
+        let first = checks::fetch(board.front.in_cycle, board.front.invited, op, next);
+        if first != 0 {
+            return Next {
+                engine: self,
+                answer: Answer::Refused(first),
+            };
         }
-        let after = r.board;
-        let tracks1 = r.tracks;
-        let decoded1 = r.decoded;
-        let table1 = r.table;
+        let x = table.resolve(op);
+        if !x.fits {
+            return Next {
+                engine: self,
+                answer: Answer::Refused(10),
+            };
+        }
+        let units = board.units;
+        let n = units.len;
+        let mut us = [[0u8; 40]; 64];
+        let mut ss = [0u64; 64];
+        slots::spread(units, &mut us, &mut ss);
+        let mut ts = [[0u8; 2]; 256];
+        let mut fs = [0u64; 256];
+        tracks::spread(tracks, &mut ts, &mut fs);
+        let sources = x.sources;
+        let destinations = x.destinations;
+        let r = taken(
+            Sequencer::of(board),
+            &us,
+            &ss,
+            n,
+            &mut ts,
+            &mut fs,
+            next,
+            window.held,
+            window.history,
+            sources,
+            destinations,
+            fixed,
+            machine.latency(class),
+            op,
+            cells,
+        );
+        let no = r.no;
+        if no != 0 {
+            return Next {
+                engine: self,
+                answer: done_or(no),
+            };
+        }
+        let mut texts = self.texts;
+        let mut lines = self.rows;
+        let mut decoded = self.decoded;
+        let place = r.place;
+        let s = window.slot(next);
+        let b = r.board;
+        let t = Texts::of(op);
+        let row = row_of(op);
+        let d = Decoded::of(op, b.fetch_pc);
+        texts.items[place] = t;
+        lines.items[s] = row;
+        decoded.items[place] = d;
+        let names = x.table;
+        let after = b.board(units);
+        let rows = tracks::gathered(&ts, &fs);
         self.board = after;
-        self.tracks = tracks1;
-        self.decoded = decoded1;
-        self.table = table1;
+        self.window = window.opened();
+        self.tracks = rows;
+        self.decoded = decoded;
+        self.table = names;
+        self.texts = texts;
+        self.rows = lines;
         Next {
             engine: self,
             answer: done_or(no),

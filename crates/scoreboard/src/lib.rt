@@ -2,14 +2,13 @@
 // hands back the very engine that came in.
 use bank::Units;
 use board::Board;
+use board::Sequencer;
 use capability::PipelineInstructionClass;
 use config::Machine;
 use config::PipelineShape;
-use flight::Queue;
 use flight::pool::Decoded;
 use flight::pool::DecodedPool;
 use flight::pool::TextPool;
-use op::MaybeNumber;
 use op::Text;
 use registers::RegisterTable;
 use timeline::RowTexts;
@@ -36,10 +35,12 @@ ghost use Rattle.config.specs.Kept.{MachineOk};
 ghost use Rattle.checks.specs.Numbered.{numbered};
 ghost use Rattle.flight.specs.Pool.{DecodedPoolOk};
 ghost use Rattle.bank.specs.View.{UnitsOk};
-ghost use Rattle.board.specs.View.{BoardOk};
+ghost use Rattle.slots.specs.View.{units-of, Sized, Lent};
+ghost use Rattle.stalls.specs.View.{LogOk};
+ghost use Rattle.board.specs.View.{board-of};
 ghost use Rattle.scoreboard.specs.View.{viewEngine, viewOffer, viewAnswer};
 ghost use Rattle.scoreboard.specs.Valid.{Parts, Valid};
-ghost use Rattle.scoreboard.specs.Answers.{new-state, offer-with, Offers, Resolves, Begins};
+ghost use Rattle.scoreboard.specs.Answers.{new-state, offer-with, Offers, Resolves};
 ghost use Rattle.scoreboard.specs.Calls.{Makes, Does, Retires};
 
 // What a cycle works on comes first, then what a fetch writes. `window.next` is the number of the next operation, and the id of its row.
@@ -139,42 +140,24 @@ fn offer_view(u: Unit, d: Decoded) -> OfferView
 }
 
 // model: Calls.reply, of start
-pub fn start_answer(units: Units, decoded: DecodedPool, writing: usize) -> Answer
-    requires { ⌜ UnitsOk units ⌝ }
+pub fn start_answer(
+    us: &[[u8; 40]],
+    ss: &[u64],
+    n: usize,
+    decoded: DecodedPool,
+    writing: usize,
+) -> Answer
+    requires { ⌜ Lent (now us) (now ss) n ⌝ }
     requires { ⌜ DecodedPoolOk decoded ⌝ }
-    requires { ⌜ (writing < 64 → writing < units .len) ⌝ }
-    ensures { λ r. ⌜ Offers units decoded writing r ⌝ }
+    requires { ⌜ (writing < 64 → writing < n) ⌝ }
+    ensures { λ r. ⌜ Offers (units-of (now (us .entry)) (now (ss .entry)) n) decoded writing r ⌝ }
 {
     if 64 <= writing {
         return Answer::NoOffer;
     }
-    let u = units.items[writing];
+    let u = slots::unit_at(us, ss, writing);
     let d = decoded.at(u.place);
     Answer::Offered(offer_view(u, d))
-}
-
-// The board after a start, and its answer.
-pub struct Begun {
-    pub board: Board,
-    pub answer: Answer,
-}
-
-// A start, unless it is refused with a number. It has two call sites, so that it stays a call (docs/DECISIONS.md, 57).
-fn begin(board: Board, decoded: DecodedPool, refused: bool, no: u8) -> Begun
-    requires { ⌜ BoardOk board ⌝ }
-    requires { ⌜ DecodedPoolOk decoded ⌝ }
-    ensures { λ r. ⌜ Begins board decoded refused no r ⌝ }
-{
-    if refused {
-        return Begun {
-            board,
-            answer: Answer::Refused(no),
-        };
-    }
-    let b = cycle::start(board);
-    let units = b.units;
-    let answer = start_answer(units, decoded, b.offer.writing);
-    Begun { board: b, answer }
 }
 
 // model: Calls.reply, of resolve; Write.resolve-branch
@@ -196,22 +179,22 @@ fn resolve_answer(units: Units, decoded: DecodedPool, writing: usize, actual_nex
 
 // The board after a retire, and the number that refuses it.
 pub struct Settled {
-    pub board: Board,
+    pub board: Sequencer,
     pub no: u8,
 }
 
 // model: Calls.refusal, of retire; Write.retire
-pub fn retired(board: Board) -> Settled
-    requires { ⌜ BoardOk board ⌝ }
-    ensures { λ r. ⌜ Retires board r ⌝ }
+pub fn retired(board: Sequencer, us: &[[u8; 40]], ss: &[u64]) -> Settled
+    requires { ⌜ Sized (now us) (now ss) ⌝ }
+    requires { ⌜ LogOk (board .log) ⌝ }
+    ensures { λ r. ⌜ ((n : ℕ) → Retires (board-of board (units-of (now (us .entry)) (now (ss .entry)) n)) r) ⌝ }
 {
     let at = board.offer.writing;
     let no = checks::retire(board.front.in_cycle, at, board.offer.retired);
     if no != 0 {
         return Settled { board, no };
     }
-    let units = board.units;
-    let u = units.items[at];
+    let u = slots::unit_at(us, ss, at);
     Settled {
         board: board.retire(u.redirects),
         no,
@@ -247,13 +230,20 @@ impl ScoreboardPipeline {
     {
         let board = self.board;
         let decoded = self.decoded;
-        let b = if board.front.in_cycle {
-            begin(board, decoded, true, 4)
-        } else {
-            begin(board, decoded, false, 0)
-        };
-        let after = b.board;
-        let answer = b.answer;
+        if board.front.in_cycle {
+            return Next {
+                engine: self,
+                answer: Answer::Refused(4),
+            };
+        }
+        let units = board.units;
+        let n = units.len;
+        let mut us = [[0u8; 40]; 64];
+        let mut ss = [0u64; 64];
+        slots::spread(units, &mut us, &mut ss);
+        let b = cycle::start(Sequencer::of(board), &mut us, &mut ss, n);
+        let answer = start_answer(&us, &ss, n, decoded, b.offer.writing);
+        let after = b.board(slots::gathered(&us, &ss, n));
         self.board = after;
         Next {
             engine: self,
@@ -266,8 +256,13 @@ impl ScoreboardPipeline {
         ensures { λ r. ⌜ Does self retire r ⌝ }
     {
         let board = self.board;
-        let r = retired(board);
-        let after = r.board;
+        let units = board.units;
+        let mut us = [[0u8; 40]; 64];
+        let mut ss = [0u64; 64];
+        slots::spread(units, &mut us, &mut ss);
+        let r = retired(Sequencer::of(board), &us, &ss);
+        let b = r.board;
+        let after = b.board(units);
         self.board = after;
         Next {
             engine: self,

@@ -7,14 +7,13 @@ use mathlib.Core.Option.{Option, none, some}
 use mathlib.Core.List.{List, [], _∷_}
 use native.Mathlib.Omega.{arith}
 use lib.Dec.{eqb}
-use lib.ListN.{getD}
 use borrow.Author.Tests.{eq-eqb}
 use Rattle.laws.specs.Optional.{get-or}
 use Rattle.laws.specs.Lists.{All, nth, elem, any}
 use Rattle.laws.specs.Texts.{Text}
 use Rattle.laws.proofs.Choices.{none-some, some-inj}
 use Rattle.laws.proofs.Tests.{cond-yes, cond-no, or-yes-second, get-or-some, get-or-none, omap-some}
-use Rattle.laws.proofs.Slices.{nth-end, seen-nth, take-map}
+use Rattle.laws.proofs.Slices.{nth-end, slice-next, seen-nth, take-map}
 use Rattle.laws.proofs.Maps.{nth-map}
 use Rattle.laws.proofs.Search.{any-hit}
 use Rattle.capability.specs.declared.PipelineHazardKind.the-variants.{ReadAfterWrite}
@@ -35,7 +34,9 @@ use Rattle.units.specs.View.{viewUnit, UnitOk, UnitIs}
 use Rattle.units.proofs.Pending.{waits-next}
 use Rattle.bank.specs.declared.Units.{Units}
 use Rattle.bank.specs.View.{viewUnits, slots, places, UnitsOk, UnitKnows}
-use Rattle.bank.proofs.Steps.{units-length, units-next, places-next}
+use Rattle.bank.proofs.Steps.{room, units-length}
+use Rattle.slots.specs.View.{items-of, units-of, Lent, At}
+use Rattle.slots.proofs.Loops.{at-next, at-place}
 use Rattle.telling.specs.Telling.{Placed, PlaceOf, Heard}
 
 -- ── What stands at a place ──────────────────────────────────────────────────
@@ -67,15 +68,20 @@ pub record IsUnit (us : Units) (at : ℕ) (u : Slot) : Type 0 where
   pub is : (g : Legend) → viewUnit g u ≡ unit-at (viewUnits g us) at
   pub placed : Placed us (u .place)
 
-module _ {us : Units} (ok : UnitsOk us) where
-  pub unit-found : (d : Slot) {at : ℕ} → at < us .len → IsUnit us at (getD (us .items) at d)
-  unfolding unit-at
-  unit-found d h =
-      record {
-        is = λ g. sym (get-or-some (idle-unit 0 0) (seen-nth (units-next ok g d h)));
-        placed = inr (nth-elem (places us) _ (seen-nth (places-next ok d h)));
-      }
+-- What `unit_at` read below the count.
+pub unit-found : {us : List (List ℕ)} {ss : List ℕ} {n : ℕ} → Lent us ss n → {at : ℕ} {u : Slot} → at < n → At us ss at u → IsUnit (units-of us ss n) at u
+unfolding unit-at
+unit-found {us} {ss} {n} l {at} h a =
+    record {
+      is = λ g. sym (get-or-some (idle-unit 0 0) (seen-nth (at-next l h a g)));
+      placed = inr (nth-elem (places (units-of us ss n)) at (seen-nth (at-place l h a)));
+    }
 
+pub slot-found : {us : List (List ℕ)} {ss : List ℕ} {n : ℕ} → Lent us ss n → {i : ℕ} {u : Slot} → i < n → At us ss i u → nth (slots (units-of us ss n)) i ≡ some u
+unfolding slots
+slot-found {us} {ss} l {u = u} h a = seen-nth (slice-next (items-of us ss) u (room (l .ok)) h) ∙ ap some (sym (a u))
+
+module _ {us : Units} (ok : UnitsOk us) where
   pub unit-past : (g : Legend) {at : ℕ} → us .len ≤ at → unit-at (viewUnits g us) at ≡ idle-unit 0 0
   unfolding unit-at
   unit-past g h = get-or-none (idle-unit 0 0) (nth-end (viewUnits g us) (omega (arith, units-length ok g)))

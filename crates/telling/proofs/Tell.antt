@@ -3,14 +3,15 @@ use Prim.Native.Nat.{ℕ, _+_, _≤_, _<_}
 use mathlib.Core.Path.{_≡_, refl, sym, ap, _∙_}
 use mathlib.Core.Bool.{true, false}
 use mathlib.Core.Logic.{⊎-elim}
+use mathlib.Core.Option.{some}
 use mathlib.Core.List.{List, [], _∷_, _++_, map, append-assoc, append-nil}
 use native.Mathlib.Omega.{arith}
 use lib.Dec.{eqb}
-use lib.ListN.{length, getD, drop, length-append}
+use lib.ListN.{length, drop, length-append}
 use borrow.Author.Tests.{not-true, eqb-false}
-use Rattle.laws.specs.Lists.{All, keep}
+use Rattle.laws.specs.Lists.{All, nth, keep}
 use Rattle.laws.proofs.Tests.{lt-or-ge, and-both}
-use Rattle.laws.proofs.Slices.{slice-next, seen-nth, All-append}
+use Rattle.laws.proofs.Slices.{Seen, All-append}
 use Rattle.laws.proofs.Kept.{keep-hit, keep-miss}
 use Rattle.capability.specs.declared.Phase.the-variants.{Wait as Waiting}
 use Rattle.runs.proofs.Tracks.{all-weaken}
@@ -28,8 +29,7 @@ use Rattle.units.specs.declared.Unit.{Unit as Slot}
 use Rattle.units.specs.View.{viewUnit, UnitOk}
 use Rattle.units.proofs.Pending.{waits-empty}
 use Rattle.bank.specs.declared.Units.{Units}
-use Rattle.bank.specs.View.{viewUnits, slots, UnitsOk}
-use Rattle.bank.proofs.Steps.{room, unit-ok, units-next}
+use Rattle.bank.specs.View.{viewUnits, slots}
 use Rattle.telling.specs.Telling.{FromUnits, Heard, Tells}
 
 pub stall-none : (l : ModelLog) → stall-all [] l ≡ l
@@ -137,22 +137,24 @@ pending-some {u} ok w =
     let k : eqb (u .pending .len) 0 ≡ false = sym (waits-empty (ok .pending)) ∙ not-true _ (and-both (in-phase Waiting (viewUnit g u)) _ (w g) .1) in
     ⊎-elim (λ n. n) (λ n. absurd (eqb-false (u .pending .len) 0 k (omega arith))) (lt-or-ge 0 (u .pending .len))
 
-module _ {us : Units} (ok : UnitsOk us) {l₀ l : Log} {i : ℕ} (d : Slot) (h : i < us .len) (e : Telling us l₀ l (waits-from us 0) (waits-from us i) i) where
-  pub waits-skip : ((g : Legend) → waits (viewUnit g (getD (us .items) i d)) ≡ false) → Telling us l₀ l (waits-from us 0) (waits-from us (i + 1)) (i + 1)
-  waits-skip w =
-      telling-skip e h
-      (λ f.
-      let told = wait-trace (viewUnits (f .legend) us) (f .names) in
-      ap (λ x. map told (keep waits x)) (units-next ok (f .legend) d h .is) ∙ ap (map told) (keep-miss waits (w (f .legend)) _))
+-- A turn at unit u of place i.
+module _ {us : Units} (u : Slot) {l₀ l : Log} {i : ℕ} (here : (g : Legend) → Seen (viewUnits g us) (us .len) i (viewUnit g u))
+    (h : i < us .len) (e : Telling us l₀ l (waits-from us 0) (waits-from us i) i)
+  where
+    pub waits-skip : ((g : Legend) → waits (viewUnit g u) ≡ false) → Telling us l₀ l (waits-from us 0) (waits-from us (i + 1)) (i + 1)
+    waits-skip w =
+        telling-skip e h
+        (λ f.
+        let told = wait-trace (viewUnits (f .legend) us) (f .names) in
+        ap (λ x. map told (keep waits x)) (here (f .legend) .is) ∙ ap (map told) (keep-miss waits (w (f .legend)) _))
 
-  pub waits-told : {r : Log} {t : Trace} → ((g : Legend) → waits (viewUnit g (getD (us .items) i d)) ≡ true) → Heard us (getD (us .items) i d) t
-      → Logs r (listed (l .traces) ++ t ∷ []) (l .traces .target) (λ f. stall-all (viewTrace f (l .traces .target) t ∷ []) (viewLog f l))
-      → Telling us l₀ r (waits-from us 0) (waits-from us (i + 1)) (i + 1)
-  unfolding slots
-  waits-told {t = t} w x s =
-      telling-next e t h s
-      (λ f.
-      let told = wait-trace (viewUnits (f .legend) us) (f .names) in
-      ap (λ y. map told (keep waits y)) (units-next ok (f .legend) d h .is) ∙ ap (map told) (keep-hit waits (w (f .legend)) _)
-      ∙ ap (λ y. y ∷ waits-from us (i + 1) f) (sym (x .is f (l .traces .target))))
-      (x .from i (seen-nth (slice-next (us .items) d (room ok) h)) (pending-some (unit-ok ok d h) w))
+    pub waits-told : {r : Log} {t : Trace} → UnitOk u → nth (slots us) i ≡ some u → ((g : Legend) → waits (viewUnit g u) ≡ true) → Heard us u t
+        → Logs r (listed (l .traces) ++ t ∷ []) (l .traces .target) (λ f. stall-all (viewTrace f (l .traces .target) t ∷ []) (viewLog f l))
+        → Telling us l₀ r (waits-from us 0) (waits-from us (i + 1)) (i + 1)
+    waits-told {t = t} ok at w x s =
+        telling-next e t h s
+        (λ f.
+        let told = wait-trace (viewUnits (f .legend) us) (f .names) in
+        ap (λ y. map told (keep waits y)) (here (f .legend) .is) ∙ ap (map told) (keep-hit waits (w (f .legend)) _)
+        ∙ ap (λ y. y ∷ waits-from us (i + 1) f) (sym (x .is f (l .traces .target))))
+        (x .from i at (pending-some ok w))

@@ -4,12 +4,12 @@ use mathlib.Core.Path.{_≡_}
 use mathlib.Core.Bool.{true}
 use mathlib.Core.Logic.{_⊎_}
 use mathlib.Core.Option.{some}
-use mathlib.Core.List.{List, _++_}
-use Rattle.laws.specs.Lists.{All, nth, elem}
+use mathlib.Core.List.{List, _++_, map}
+use Rattle.laws.specs.Lists.{All, nth, elem, keep}
 use Rattle.model.specs.Traces.{Trace as Wait}
 use Rattle.model.specs.State.{stall-all}
 use Rattle.model.specs.Op.{mnemonic}
-use Rattle.model.specs.Units.{unit-at}
+use Rattle.model.specs.Units.{unit-at, waits}
 use Rattle.model.specs.Issue.{wait-trace}
 use Rattle.flight.specs.View.{Legend}
 use Rattle.stalls.specs.declared.Trace.{Trace}
@@ -52,3 +52,7 @@ pub record Tells (us : Units) (l r : Log) (ws : Frame → List Wait) : Type 0 wh
   pub waits : listed (r .traces) ≡ listed (l .traces) ++ told
   pub each : All (FromUnits us) told
   pub ok : LogOk r
+
+-- The waits of the units that wait for a source, in order.
+abbrev pub source-waits : Units → Frame → List Wait
+source-waits us f = map (wait-trace (viewUnits (f .legend) us) (f .names)) (keep waits (viewUnits (f .legend) us))

@@ -1,28 +1,23 @@
 // The waits that units tell: of a unit whose source is owed.
-use bank::Units;
 use stalls::Log;
 use stalls::Trace;
 use traces::WaitForm;
 use units::Unit;
 use units::waits;
-ghost use mathlib.Core.List.{map};
 ghost use Prim.Native.Nat.{_+_, _≤_};
-ghost use Rattle.laws.specs.Lists.{keep};
-ghost use Rattle.model.specs.Units.{waits};
-ghost use Rattle.model.specs.Issue.{wait-trace};
 ghost use Rattle.stalls.specs.View.{LogOk};
 ghost use Rattle.units.specs.View.{UnitOk};
-ghost use Rattle.bank.specs.View.{viewUnits, UnitsOk};
-ghost use Rattle.telling.specs.Telling.{PlaceOf, Heard, Tells};
+ghost use Rattle.slots.specs.View.{units-of, Lent};
+ghost use Rattle.telling.specs.Telling.{PlaceOf, Heard, Tells, source-waits};
 
 // The place in the pool of a unit's operation; 80 for none.
-pub fn place_of(units: Units, unit: u8) -> u8
-    requires { ⌜ UnitsOk units ⌝ }
-    ensures { λ r. ⌜ PlaceOf units unit r ⌝ }
+pub fn place_of(us: &[[u8; 40]], ss: &[u64], n: usize, unit: u8) -> u8
+    requires { ⌜ Lent (now us) (now ss) n ⌝ }
+    ensures { λ r. ⌜ PlaceOf (units-of (now (us .entry)) (now (ss .entry)) n) unit r ⌝ }
 {
     let at = unit as usize;
-    if at < units.len {
-        let u = units.items[at];
+    if at < n {
+        let u = slots::unit_at(us, ss, at);
         return u.place;
     }
     80
@@ -30,16 +25,16 @@ pub fn place_of(units: Units, unit: u8) -> u8
 
 // What unit u waits for first.
 // model: Issue.wait-trace
-fn wait_trace(units: Units, u: Unit) -> Trace
-    requires { ⌜ UnitsOk units ⌝ }
+fn wait_trace(us: &[[u8; 40]], ss: &[u64], n: usize, u: Unit) -> Trace
+    requires { ⌜ Lent (now us) (now ss) n ⌝ }
     requires { ⌜ UnitOk u ⌝ }
-    ensures { λ r. ⌜ Heard units u r ⌝ }
+    ensures { λ r. ⌜ Heard (units-of (now (us .entry)) (now (ss .entry)) n) u r ⌝ }
 {
     let pending = u.pending;
     let p = waits::first(pending);
     let at = p.unit as usize;
-    let producer = if at < units.len {
-        units.items[at]
+    let producer = if at < n {
+        slots::unit_at(us, ss, at)
     } else {
         Unit::idle(0, 0)
     };
@@ -62,20 +57,19 @@ fn wait_trace(units: Units, u: Unit) -> Trace
 
 // The waits of the units that wait for a source, in order.
 // model: stall-all (map wait-trace (keep waits units))
-pub fn list_waits(units: Units, log: Log) -> Log
-    requires { ⌜ UnitsOk units ⌝ }
+pub fn list_waits(us: &[[u8; 40]], ss: &[u64], n: usize, log: Log) -> Log
+    requires { ⌜ Lent (now us) (now ss) n ⌝ }
     requires { ⌜ LogOk log ⌝ }
-    requires { ⌜ log .traces .len + units .len ≤ 130 ⌝ }
-    ensures { λ r. ⌜ Tells units log r (λ f. map (wait-trace (viewUnits (f .legend) units) (f .names)) (keep waits (viewUnits (f .legend) units))) ⌝ }
+    requires { ⌜ log .traces .len + n ≤ 130 ⌝ }
+    ensures { λ r. ⌜ Tells (units-of (now (us .entry)) (now (ss .entry)) n) log r (source-waits (units-of (now (us .entry)) (now (ss .entry)) n)) ⌝ }
 {
     let mut all = log;
-    let n = units.len;
     let mut i: usize = 0;
     while i < n {
-        let u = units.items[i];
+        let u = slots::unit_at(us, ss, i);
         i += 1;
         if u.waits() {
-            let t = wait_trace(units, u);
+            let t = wait_trace(us, ss, n, u);
             all = all.stall(t);
         }
     }

@@ -13,7 +13,6 @@ ghost use lib.ListN.{length, set, replicate};
 ghost use Rattle.laws.specs.Means.{Means};
 ghost use Rattle.laws.specs.Lists.{nth};
 ghost use Rattle.laws.specs.Numbers.{max64};
-ghost use Rattle.model.specs.Timeline.{write-all, push-writes, open-writes};
 ghost use Rattle.timeline.specs.View.{
   first-track,
   no-text,
@@ -31,7 +30,6 @@ ghost use Rattle.timeline.specs.View.{
   SlotOf,
   slot-held,
   Grown,
-  Pushed,
   ShowsRow,
   ShowsText,
 };
@@ -206,42 +204,6 @@ impl Tracks {
     {
         let t = Track::first(0);
         Tracks { items: [t; 256] }
-    }
-
-    // Timeline::open, what moves: the row of id `next`, its 200 bytes set to 255 and then its first cell, IF.
-    pub fn open(self, window: Window, cycle: u64, cells: &mut [u8]) -> Tracks
-        requires { ⌜ WindowOk window ⌝ }
-        requires { ⌜ TracksOk self ⌝ }
-        requires { ⌜ window .history * 200 ≤ length (now cells) ⌝ }
-        ensures tracks { λ r. ⌜ Means all-tracks TracksOk r (set (self .items) (window .next % window .history) (first-track cycle)) ⌝ }
-        ensures memory { λ r. ⌜ now (cells .exit) ≡ write-all (open-writes (window .history) (window .next)) (now (cells .entry)) ⌝ }
-    {
-        let s = window.slot(window.next);
-        let at = s * 200;
-        cells::fill(cells, at, 200, 255);
-        cells[at] = 0;
-        let mut ts = self;
-        let t = Track::first(cycle);
-        ts.items[s] = t;
-        ts
-    }
-
-    // Timeline::push: a cell's byte to the row of an id; nothing where it is no longer held.
-    pub fn push(self, window: Window, id: u64, byte: u8, cells: &mut [u8]) -> Tracks
-        requires { ⌜ WindowOk window ⌝ }
-        requires { ⌜ TracksOk self ⌝ }
-        requires { ⌜ window .history * 200 ≤ length (now cells) ⌝ }
-        ensures tracks { λ r. ⌜ Pushed window id self r ⌝ }
-        ensures memory { λ r. ⌜ ((xs : RowTexts) → now (cells .exit) ≡ write-all (push-writes (window .history) id byte (viewRows window self xs)) (now (cells .entry))) ⌝ }
-    {
-        let mut ts = self;
-        let found = window.find(id);
-        if let Slot::At(s) = found {
-            let t = self.items[s];
-            let u = t.push(s, byte, cells);
-            ts.items[s] = u;
-        }
-        ts
     }
 }
 

@@ -23,7 +23,9 @@ use Rattle.model.specs.Write.{
   Tried as Outcome,
   tried,
   try-one,
+  ready-at,
   try-writes,
+  writable-unit,
   mark-blocked,
 }
 use Rattle.registers.specs.View.{claimed as index}
@@ -31,8 +33,9 @@ use Rattle.flight.specs.View.{Legend}
 use Rattle.units.specs.declared.Unit.{Unit as Slot}
 use Rattle.units.specs.View.{viewUnit, UnitOk, UnitIs}
 use Rattle.bank.specs.declared.Units.{Units}
-use Rattle.bank.specs.View.{viewUnits, places, UnitsOk, UnitsAre}
-use Rattle.bank.proofs.Steps.{unit-ok, units-set, place-kept}
+use Rattle.bank.specs.View.{viewUnits, places, UnitsOk}
+use Rattle.slots.specs.View.{units-of, Lent, At, Put, LentAre}
+use Rattle.slots.proofs.Loops.{at-ok, lent-set, lent-kept, lent-on}
 use Rattle.writing.specs.declared.Finished.{Finished}
 use Rattle.writing.specs.declared.Ready.{Ready}
 use Rattle.writing.specs.declared.Blocked.{Blocked}
@@ -41,6 +44,7 @@ use Rattle.writing.specs.declared.Tried.{Tried}
 use Rattle.writing.specs.View.{
   viewReady,
   ReadyOk,
+  ReadyIs,
   viewBlocked,
   viewTurned,
   turned-away,
@@ -157,56 +161,75 @@ module _ {us : Units} {r : Ready} (ok : UnitsOk us) (rok : ReadyOk r) (few : r .
         ok = record { few = omega (arith, e .len, e .most); size = e .size; each = e .each; found = λ q. absurd (omega (arith, e .found)) };
       }
 
+-- The list that was tried is that of the finished units.
+pub writable : {us : Units} {r : Ready} {t : Tried} → ReadyIs r (us .len) (λ g. ready-at 0 (viewUnits g us))
+    → TriedIs us t (λ g. try-writes (viewUnits g us) (viewReady r))
+    → TriedIs us t (λ g. writable-unit (viewUnits g us))
+unfolding writable-unit
+writable {us} m t = record { is = λ g. t .is g ∙ ap (try-writes (viewUnits g us)) (m .is g); ok = t .ok }
+
 -- ── The loop that marks ─────────────────────────────────────────────────────
 
 -- The first k of those turned away have their hazards.
-pub record Marked (us₀ : Units) (t : Tried) (us : Units) (k : ℕ) : Type 0 where
-  pub len : us .len ≡ us₀ .len
-  pub is : (g : Legend) → Scan marking (viewUnits g us₀) (turned-away t) (t .len) (viewUnits g us) k
-  pub places : places us ≡ places us₀
-  pub ok : UnitsOk us
+pub record Marked (us₀ : List (List ℕ)) (ss₀ : List ℕ) (n : ℕ) (t : Tried) (us : List (List ℕ)) (ss : List ℕ) (k : ℕ) : Type 0 where
+  pub lent : Lent us ss n
+  pub is : (g : Legend) → Scan marking (viewUnits g (units-of us₀ ss₀ n)) (turned-away t) (t .len) (viewUnits g (units-of us ss n)) k
+  pub places : places (units-of us ss n) ≡ places (units-of us₀ ss₀ n)
 
-module _ {us₀ : Units} {t : Tried} (ok : UnitsOk us₀) (tok : TriedOk us₀ t) where
-  pub marked-first : Marked us₀ t us₀ 0
-  marked-first = record { len = refl; is = λ g. scan-first; places = refl; ok = ok }
+module _ {us₀ : List (List ℕ)} {ss₀ : List ℕ} {n : ℕ} {t : Tried} (l : Lent us₀ ss₀ n) (tok : TriedOk (units-of us₀ ss₀ n) t) where
+  pub marked-first : Marked us₀ ss₀ n t us₀ ss₀ 0
+  marked-first = record { lent = l; is = λ g. scan-first; places = refl }
 
   tried-room : t .len ≤ length (t .items)
-  tried-room = omega (arith, tok .few, tok .size, ok .few)
+  tried-room = omega (arith, tok .few, tok .size, l .ok .few)
 
-  module _ {us : Units} {k : ℕ} (e : Marked us₀ t us k) (h : k < t .len) (d : Turned) where
-    pub marked-unit : getD (t .items) k d .unit < us₀ .len
-    marked-unit = All-seen (TurnedOk us₀) (take (t .len) (t .items)) (tok .each) (slice-next (t .items) d tried-room h) .unit
+  module _ {us : List (List ℕ)} {ss : List ℕ} {k : ℕ} (e : Marked us₀ ss₀ n t us ss k) where
+    pub marked-rows : length us ≡ length us₀
+    marked-rows = e .lent .size .rows ∙ sym (l .size .rows)
 
-    pub marked-inside : getD (t .items) k d .unit < 64
-    marked-inside = omega (arith, marked-unit, ok .few)
+    pub marked-numbers : length ss ≡ length ss₀
+    marked-numbers = e .lent .size .numbers ∙ sym (l .size .numbers)
 
-    pub marked-read : (s : Slot) → UnitOk (getD (us .items) (getD (t .items) k d .unit) s)
-    marked-read s = unit-ok (e .ok) s (omega (arith, marked-unit, e .len))
+    module _ (h : k < t .len) (d : Turned) where
+      pub marked-unit : getD (t .items) k d .unit < n
+      marked-unit = All-seen (TurnedOk (units-of us₀ ss₀ n)) (take (t .len) (t .items)) (tok .each) (slice-next (t .items) d tried-room h) .unit
 
-    pub marked-next : (s : Slot) {x : Slot} {kind : PipelineHazardKind} → kind ≡ blocked-kind (get-or drain (viewBlocked (getD (t .items) k d .blocked)))
-        → UnitIs x (λ g. mark-hazard kind (viewUnit g (getD (us .items) (getD (t .items) k d .unit) s))) (getD (us .items) (getD (t .items) k d .unit) s .place)
-        → Marked us₀ t (record { items = set (us .items) (getD (t .items) k d .unit) x; len = us .len }) (k + 1)
-    unfolding turned-away viewTurned
-    marked-next s {x} {kind} q m =
-        let at : ℕ = getD (t .items) k d .unit in
-        let inside : at < us .len = omega (arith, marked-unit, e .len) in
-        let u = units-set (e .ok) (λ g. mark-hazard kind) s inside m in
+      pub marked-inside : getD (t .items) k d .unit < 64
+      marked-inside = omega (arith, marked-unit, l .ok .few)
+
+      -- u is the unit that was turned away.
+      module _ {u : Slot} (a : At us ss (getD (t .items) k d .unit) u) where
+        pub marked-read : UnitOk u
+        marked-read = at-ok (e .lent) marked-unit a
+
+        pub marked-next : {x : Slot} {kind : PipelineHazardKind} {us′ : List (List ℕ)} {ss′ : List ℕ}
+            → kind ≡ blocked-kind (get-or drain (viewBlocked (getD (t .items) k d .blocked)))
+            → UnitIs x (λ g. mark-hazard kind (viewUnit g u)) (u .place)
+            → Put us ss (getD (t .items) k d .unit) x us′ ss′
+            → Marked us₀ ss₀ n t us′ ss′ (k + 1)
+        unfolding turned-away viewTurned
+        marked-next {kind = kind} q m p =
+            let at : ℕ = getD (t .items) k d .unit in
+            let now = lent-set (e .lent) marked-unit a p (λ g. mark-hazard kind) m in
+            record {
+              lent = lent-on now;
+              is = λ g.
+                  scan-next (e .is g) (view-next viewTurned (t .items) d tried-room h)
+                  (λ bs.
+                  mark-next (viewUnits g (units-of us ss n)) (viewTurned (getD (t .items) k d)) bs
+                  ∙ ap (λ l. marking l bs) (ap (λ z. modify at (mark-hazard z) (viewUnits g (units-of us ss n))) (sym q) ∙ sym (now .are .is g)));
+              places = now .are .places ∙ lent-kept (e .lent) marked-unit a ∙ e .places;
+            }
+
+    pub marked-last : t .len ≤ k → LentAre us ss n (λ g. mark-blocked (turned-away t) (viewUnits g (units-of us₀ ss₀ n))) (places (units-of us₀ ss₀ n))
+    unfolding turned-away
+    marked-last h =
         record {
-          len = e .len;
-          is = λ g.
-              scan-next (e .is g) (view-next viewTurned (t .items) d tried-room h)
-              (λ bs.
-              mark-next (viewUnits g us) (viewTurned (getD (t .items) k d)) bs
-              ∙ ap (λ l. marking l bs) (ap (λ z. modify at (mark-hazard z) (viewUnits g us)) (sym q) ∙ sym (u .is g)));
-          places = u .places ∙ place-kept (e .ok) s inside ∙ e .places;
-          ok = u .ok;
+          size = e .lent .size;
+          are =
+              record {
+                is = λ g. scan-last (e .is g) (slice-end (map viewTurned (t .items)) h) (mark-end (viewUnits g (units-of us ss n)));
+                places = e .places;
+                ok = e .lent .ok;
+              };
         }
-
-  pub marked-last : {us : Units} {k : ℕ} → Marked us₀ t us k → t .len ≤ k → UnitsAre us (λ g. mark-blocked (turned-away t) (viewUnits g us₀)) (places us₀)
-  unfolding turned-away
-  marked-last {us} e h =
-      record {
-        is = λ g. scan-last (e .is g) (slice-end (map viewTurned (t .items)) h) (mark-end (viewUnits g us));
-        places = e .places;
-        ok = e .ok;
-      }

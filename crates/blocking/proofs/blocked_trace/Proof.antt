@@ -19,7 +19,7 @@ place-of-requires-3 : tie.Need-place-of-requires-3
 place-of-requires-3 c κs = search needs
 
 returns : tie.Need-returns
-returns c = let d = c .before .before in let p = d .before .before in told-war (p .place-of .ensures) (p .before .pre .1) (c .place-of2 .ensures) (d .blocked .given .1)
+returns c = let d = c .before .before in let p = d .before .before in told-war (p .place-of .ensures) (p .before .before .pre .1) (c .place-of2 .ensures) (d .blocked .given .1)
 
 returns-2 : tie.Need-returns-2
 returns-2 c = let d = c .before .before in told-memory (d .before .before .place-of .ensures) (c .place-of3 .ensures) (d .blocked2 .given .1)

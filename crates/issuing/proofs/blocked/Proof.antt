@@ -9,7 +9,7 @@ use Rattle.flight.specs.declared.Queued.{Queued}
 use Rattle.flight.specs.View.{viewOperands, viewQueue, entries}
 use Rattle.stalls.specs.View.{viewTrace, listed, viewLog}
 use Rattle.stalls.specs.Contracts.{Known}
-use Rattle.board.specs.View.{log-frame, boards}
+use Rattle.board.specs.View.{log-frame, board-of, boards}
 use Rattle.board.specs.Contracts.{queue-places}
 use Rattle.board.proofs.Parts.{state-by}
 use Rattle.issuing.proofs.Moving.{front-item, front-kept, one-more}
@@ -31,14 +31,13 @@ stall-requires c κs = search needs
 
 returns : tie.Need-returns
 unfolding boards queue-places
-returns c =
+returns c us ok =
     let d = c .before in
     let k = d .before in
     let s = k .before .before .before .before in
-    let b = s .args .board in
+    let b = board-of (s .args .board) us in
     let w = s .args .form in
     let n = s .args .number in
-    let ok = s .pre .0 in
     let e = d .block-front .ensures in
     let h = c .stall .ensures in
     let l = listed (b .log .traces) in
@@ -63,7 +62,7 @@ returns c =
             status = ok .status;
             gone = ok .gone;
             knows = ok .knows;
-            known = subst (All (Known (b .claims .len))) (sym (h .waits)) (All-append (Known (b .claims .len)) l (_ ∷ []) (ok .known) (s .pre .1 .1, tt));
+            known = subst (All (Known (b .claims .len))) (sym (h .waits)) (All-append (Known (b .claims .len)) l (_ ∷ []) (ok .known) (s .pre .1 .1 .1, tt));
           };
       few = one-more _ (ok .log) (h .ok) (h .waits);
       waits = λ q f. h .waits ∙ ap (λ (y : Queued). l ++ record { form = w; mine = y .place; other = 80; number = n } ∷ []) (front-item (ok .queue) _ f);

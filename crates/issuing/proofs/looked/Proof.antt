@@ -12,7 +12,7 @@ use Rattle.registers.proofs.Owing.{claims-length}
 use Rattle.op.specs.View.{viewMaybeText}
 use Rattle.stalls.specs.View.{listed}
 use Rattle.bank.specs.View.{slots}
-use Rattle.board.specs.View.{boards}
+use Rattle.board.specs.View.{board-of, boards}
 use Rattle.board.proofs.Parts.{state-by}
 use Rattle.issuing.proofs.Looking.{pad-count, all-below, through-most, knows-more, known-more, log-more}
 use mir.Syntax.{w8}
@@ -35,15 +35,14 @@ padded-requires c κs =
     (All-append (λ (k : ℕ). k < 256) (read x) (written x) (All-take (λ (k : ℕ). k < 256) (x .«sources_len») (x .sources) r)
     (All-take (λ (k : ℕ). k < 256) (x .«destinations_len») (x .destinations) w))
     in
-    (a .pre .0 .claims, omega (arith, m, c .through .ensures))
+    (a .pre .0, omega (arith, m, c .through .ensures))
 
 returns : tie.Need-returns
 unfolding boards
-returns c =
+returns c us ok =
     let d = c .before in
     let s = d .before .before .before in
-    let b = s .args .board in
-    let ok = s .pre .0 in
+    let b = board-of (s .args .board) us in
     let h = c .padded .ensures in
     let t = d .through .ensures in
     let k =

@@ -15,6 +15,7 @@ use Rattle.flight.specs.declared.Queued.{Queued}
 use Rattle.flight.specs.View.{Legend, written}
 use Rattle.traces.specs.declared.WaitForm.the-variants.{StillWrites, AllBusy}
 use Rattle.bank.specs.View.{viewUnits}
+use Rattle.slots.specs.View.{units-of}
 use Rattle.board.specs.declared.Board.{Board}
 use Rattle.issuing.specs.declared.Way.the-variants.{Blocked, Into}
 use Rattle.issuing.specs.Steps.{Chooses}
@@ -78,10 +79,10 @@ spec-index-requires c κs = search needs
 cast-spec : tie.Need-cast-spec
 cast-spec c =
     let s = c .before .before .before .before .before .before .before .before in
-    record { fits = omega (arith, c .spec-index .ensures, index-there (s .pre .1 .1) (s .args .front .class), s .pre .1 .1 .few) }
+    record { fits = omega (arith, c .spec-index .ensures, index-there (s .pre .1 .1 .1) (s .args .front .class), s .pre .1 .1 .1 .few) }
 
 free-unit-requires : tie.Need-free-unit-requires
-free-unit-requires c κs = search needs
+free-unit-requires c κs = record { size = search needs; ok = search needs }
 
 returns-2 : tie.Need-returns-2
 unfolding viewMaybeIndex
@@ -92,7 +93,7 @@ returns-2 c =
     let s = t .before .before .before .before .before in
     free (sym (t .taken .ensures) ∙ ap viewMaybeIndex (i .before .enum-told .given .1))
     (λ g.
-    ap (λ k. find-at (is-free k) 0 (viewUnits g (s .args .board .units))) (sym (i .spec-index .ensures)) ∙ sym (d .free-unit .ensures g)
+    ap (λ k. find-at (is-free k) 0 (viewUnits g (units-of (s .args .us .now) (s .args .ss .now) (s .args .n)))) (sym (i .spec-index .ensures)) ∙ sym (d .free-unit .ensures g)
     ∙ claimed-some (c .if1 .taken))
 
 returns-3 : tie.Need-returns-3

@@ -3,6 +3,7 @@ use native.Mathlib.Omega.{arith}
 use lib.ListN.{length-append}
 use Rattle.bank.specs.View.{places}
 use Rattle.bank.proofs.Steps.{places-length}
+use Rattle.slots.specs.View.{units-of}
 use Rattle.places.specs.Places.{queue-places}
 use Rattle.places.proofs.Marks.{marked-more, queue-places-length}
 use borrow.Author.Needs.{needs}
@@ -23,16 +24,16 @@ first-free-requires c κs = search needs
 
 returns : tie.Need-returns
 returns c =
-    let s = c .before .before .before in
-    let ok = s .pre .0 in
-    let list = places (s .args .units) ++ queue-places (s .args .queue) in
+    let s = c .before .before .before .before in
+    let units = units-of (s .args .us .now) (s .args .ss .now) (s .args .n) in
+    let list = places units ++ queue-places (s .args .queue) in
     c .first-free .ensures (list ++ s .args .gone ∷ [])
-    (marked-more (c .before .and-queue .ensures (places (s .args .units)) (c .before .before .of-units .ensures)) (s .pre .1 .1 .1))
+    (marked-more (c .before .and-queue .ensures (places units) (c .before .before .of-units .ensures)) (s .pre .1 .1 .1))
     (omega (
       arith,
-      places-length ok,
+      places-length (s .pre .0 .ok),
       queue-places-length (s .pre .1 .0),
-      length-append (places (s .args .units)) (queue-places (s .args .queue)),
+      length-append (places units) (queue-places (s .args .queue)),
       length-append list (s .args .gone ∷ []),
       s .pre .1 .1 .0,
     ))

@@ -9,11 +9,11 @@ use Rattle.scoreboard.proofs.advance.invitation.Tie as tie
 
 returns : tie.Need-returns
 unfolding viewAnswer viewBoard invitation-of
-returns c x = sym (ap invitation (cond-yes (some (c .before .args .board .«fetch_pc»)) none (c .if1 .taken)))
+returns c x us = sym (ap invitation (cond-yes (some (c .before .args .board .«fetch_pc»)) none (c .if1 .taken)))
 
 returns-2 : tie.Need-returns-2
 unfolding viewAnswer viewBoard invitation-of
-returns-2 c x = sym (ap invitation (cond-no (some (c .before .args .board .«fetch_pc»)) none (c .if1 .left)))
+returns-2 c x us = sym (ap invitation (cond-no (some (c .before .args .board .«fetch_pc»)) none (c .if1 .left)))
 
 pub invitation-spec : {M : Type 1} → statement M
 invitation-spec = tie.close (tie.spec returns returns-2)

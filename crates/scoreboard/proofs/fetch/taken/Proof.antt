@@ -2,123 +2,131 @@ use mathlib.Core.Path.{_≡_}
 use mathlib.Core.Option.{none}
 use native.Mathlib.Omega.{arith}
 use lib.ListN.{length, length-map}
-use borrow.Author.Needs.{needs}
 use Rattle.model.specs.Calls.{first-of}
 use Rattle.places.specs.Places.{queue-places}
+use Rattle.tracks.specs.View.{tracks-of}
+use Rattle.slots.specs.View.{units-of}
 use Rattle.board.specs.Contracts.{placing}
 use Rattle.scoreboard.specs.Advance.{window-of}
-use Rattle.scoreboard.specs.Taking.{Given, given}
-use Rattle.scoreboard.proofs.Recorded.{write-length}
-use Rattle.scoreboard.proofs.Fetches.{some-number, no-number, first-rows, last-rows, operation-fine}
-use Rattle.scoreboard.proofs.Taking.{refuses-first, memory-first, refuses-last, memory-last, room-left, few-left, room-there, taking, memory-taken}
+use Rattle.scoreboard.proofs.Fetches.{some-number, no-number}
+use Rattle.scoreboard.proofs.Taking.{
+  Loan,
+  before-names,
+  after-names,
+  refuses-first,
+  memory-first,
+  refuses-last,
+  memory-last,
+  room-left,
+  few-left,
+  room-there,
+  few-reads,
+  few-writes,
+  taking,
+  memory-taken,
+}
+use borrow.Author.Needs.{needs}
 use Rattle.scoreboard.proofs.fetch.taken.Statement.{statement}
 use Rattle.scoreboard.proofs.fetch.taken.Tie as tie
 
 fetch-requires : tie.Need-fetch-requires
 fetch-requires c κs = search needs
 
+abbrev loan : tie.Start → Loan
+loan s =
+    let a = s .args in
+    record {
+      board = a .board;
+      units = units-of (a .us .now) (a .ss .now) (a .n);
+      window = window-of (a .next) (a .rows) (a .history);
+      tracks = tracks-of (a .ts .now) (a .fs .now);
+      sources = a .sources;
+      destinations = a .destinations;
+      fixed = a .fixed;
+      cycles = a .latency;
+      op = a .op;
+    }
+
 returns : tie.Need-returns
 returns c =
-    let s = c .before .before .before in
+    let s = c .before .before .before .before .before in
     let h = some-number (c .before .fetch .ensures) (c .if1 .taken) in
-    (refuses-first (c .if1 .taken) h, memory-first (c .if1 .taken) h (s .args .cells .now))
-
-abbrev the-given : tie.Start → Given
-the-given s =
-    given (s .args .board) (window-of (s .args .next) (s .args .rows) (s .args .history)) (s .args .tracks) (s .args .decoded) (s .args .table)
-    (s .args .fixed) (s .args .latency) (s .args .op)
+    (refuses-first (loan s) (c .if1 .taken) h, (memory-first (loan s) (c .if1 .taken) h (s .args .cells .now), s .pre .1 .0))
 
 -- The first checks pass, and all of them.
-passes : (c : tie.Else1)
-    → first-of (first-rows (c .before .before .before .args .board) (c .before .before .before .args .next) (c .before .before .before .args .op)) ≡ none
+passes : (c : tie.Else1) → first-of (before-names (loan (c .before .before .before .before .before))) ≡ none
 passes c = no-number (c .before .fetch .ensures) (c .if1 .left)
 
-fits : (c : tie.Else2)
-    → first-of
-    (last-rows (c .before .before .before .before .before .before .args .history) (c .before .before .resolve .result)
-    (length (c .before .before .before .before .before .before .args .cells .now)))
-    ≡ none
+fits : (c : tie.Else2) → first-of (after-names (loan (c .before .before .before .before .before .before .before)) (length (c .before .before .before .before .before .before .before .args .cells .now))) ≡ none
 fits c = no-number (c .before .fetch-names .ensures) (c .if2 .left)
 
-resolve-requires : tie.Need-resolve-requires
-resolve-requires c κs =
-    let s = c .before .before .before in
-    let f = operation-fine (s .args .board) (s .args .next) (s .args .op) (passes c) in
-    (s .pre .holds .valid .parts .table, (f .0, f .1))
-
 fetch-names-requires : tie.Need-fetch-names-requires
-fetch-names-requires c κs = c .before .before .before .before .pre .holds .valid .parts .window .most
+fetch-names-requires c κs = search needs
 
 returns-2 : tie.Need-returns-2
 returns-2 c =
-    let x = c .before .before in
-    let s = x .before .before .before .before in
-    let l = some-number (c .before .fetch-names .ensures) (c .if2 .taken) in (
-      refuses-last (c .if2 .taken) (x .resolve .ensures) (passes (x .before)) l,
-      memory-last (c .if2 .taken) (x .resolve .ensures) (passes (x .before)) (s .args .cells .now) l,
-    )
+    let s = c .before .before .before .before .before .before .before in
+    let p = passes (c .before .before) in
+    let l = some-number (c .before .fetch-names .ensures) (c .if2 .taken) in
+    (refuses-last (loan s) (c .if2 .taken) p l, (memory-last (loan s) (c .if2 .taken) p (s .args .cells .now) l, s .pre .1 .0))
 
 free-place-requires : tie.Need-free-place-requires
 free-place-requires c κs =
-    let f = c .before .before in
-    let x = f .before .before in
-    let s = x .before .before .before .before in
-    let ok = s .pre .holds .valid .parts .board in
-    (ok .units, (ok .queue, (few-left (the-given s) (length (s .args .cells .now)) (x .resolve .ensures) (passes (x .before)) (fits f) (s .pre), ok .gone)))
+    let f = c .before in
+    let s = c .before .before .before .before .before .before .before .before in
+    let ok = s .pre .1 .1 .holds .valid .parts .board in
+    let few = few-left (loan s) (length (s .args .cells .now)) (passes (c .before .before .before)) (fits f) (s .pre .1 .1) in
+    (record { size = s .pre .0; ok = ok .units }, (ok .queue, (few, ok .gone)))
 
 sequential-address-requires : tie.Need-sequential-address-requires
 sequential-address-requires c κs = search needs
 
 queued-requires : tie.Need-queued-requires
 queued-requires c κs =
-    let p = c .before in
-    (p .before .before .before .before .before .resolve .ensures .numbers, p .free-place .ensures .there)
+    let f = c .before .before .before in
+    let s = c .before .before .before .before .before .before .before .before .before .before in
+    let p = passes (c .before .before .before .before .before) in
+    let n = length (s .args .cells .now) in
+    (few-reads (loan s) n p (fits f) (s .pre .1 .1), (few-writes (loan s) n p (fits f) (s .pre .1 .1), c .before .free-place .ensures .there))
 
 push-back-requires : tie.Need-push-back-requires
 push-back-requires c κs =
-    let f = c .before .before .before .before .before in
-    let x = f .before .before in
-    let s = x .before .before .before .before in
-    let r = room-left (the-given s) (length (s .args .cells .now)) (x .resolve .ensures) (passes (x .before)) (fits f) (s .pre) in
-    (s .pre .holds .valid .parts .board .queue, (c .queued .ensures .ok, omega (arith, r)))
-
-of-requires : tie.Need-of-requires
-of-requires c κs = search needs
+    let f = c .before .before .before .before in
+    let s = c .before .before .before .before .before .before .before .before .before .before .before in
+    let r = room-left (loan s) (length (s .args .cells .now)) (passes (c .before .before .before .before .before .before)) (fits f) (s .pre .1 .1) in
+    (s .pre .1 .1 .holds .valid .parts .board .queue, (c .queued .ensures .ok, omega (arith, r)))
 
 open-requires : tie.Need-open-requires
 open-requires c κs =
     let f = c .before .before .before .before .before .before .before .before in
-    let x = f .before .before in
-    let s = x .before .before .before .before in
-    let p = s .pre .holds .valid .parts in
-    (p .window, (p .tracks, room-there (the-given s) (length (s .args .cells .now)) (x .resolve .ensures) (passes (x .before)) (fits f) (s .pre)))
-
-mul-d : tie.Need-mul-d
-mul-d c = omega (arith, c .before .before .before .before .before .before .before .before .before .free-place .ensures .there)
-
-element-set-from-d : tie.Need-element-set-from-d
-element-set-from-d c = omega (arith, c .before .before .before .before .before .before .before .before .before .free-place .ensures .there)
+    let s = c .before .before .before .before .before .before .before .before .before .before .before .before .before .before .before in
+    let p = s .pre .1 .1 .holds .valid .parts in
+    let r = room-there (loan s) (length (s .args .cells .now)) (passes (c .before .before .before .before .before .before .before .before .before .before)) (fits f) (s .pre .1 .1) in
+    (p .window, (record { size = s .pre .1 .0; ok = p .tracks }, r))
 
 same-length : tie.Need-same-length
-same-length c = write-length _ _ (c .before .before .before .before .open .ensures .1)
+same-length c = search needs
+
+same-length-2 : tie.Need-same-length-2
+same-length-2 c = search needs
+
+same-length-3 : tie.Need-same-length-3
+same-length-3 c = search needs
 
 text-size : (s : tie.Start) → length (s .args .op .disassembly .bytes) ≡ 64
-text-size s = simp length-map at (s .good .1 .1 .1 .1 .1 .1 .1 .1 .1 .0 .1 .1 .1 .1 .1 .1 .1 .0 .1 .1 .0 .1 .0 .1)
+text-size s = simp length-map at (s .good .1 .1 .1 .1 .1 .1 .1 .1 .1 .1 .1 .1 .1 .0 .1 .1 .1 .1 .1 .1 .1 .0 .1 .1 .0 .1 .0 .1)
 
 returns-3 : tie.Need-returns-3
 unfolding placing queue-places
 returns-3 c =
-    let o = c .before .before .before .before in
-    let d = o .before .before in
-    let q = d .before .before in
-    let a = q .before in
-    let p = a .before in
-    let f = p .before .before .before in
-    let x = f .before .before in
-    let s = x .before .before .before .before in (
-      taking (the-given s) (length (s .args .cells .now)) (x .resolve .ensures) (passes (x .before)) (fits f) (p .free-place .ensures) (a .sequential-address .ensures) (q .queued .ensures)
-          (d .before .push-back .ensures) (d .of .ensures) (o .open .ensures .0) (text-size s) (s .pre),
-      memory-taken (x .resolve .ensures) (passes (x .before)) (s .args .cells .now) (fits f) (o .open .ensures .1),
+    let o = c .before .before .before .before .before .before .open .ensures in
+    let f = c .before .before .before .before .before .before .before .before .before .before .before .before .before .before .before in
+    let s = c .before .before .before .before .before .before .before .before .before .before .before .before .before .before .before .before .before .before .before .before .before .before in
+    let p = passes (c .before .before .before .before .before .before .before .before .before .before .before .before .before .before .before .before .before) in
+    let m = s .args .cells .now in (
+      taking (loan s) (length m) p (fits f) (c .before .before .before .before .before .before .before .before .before .before .before .before .before .free-place .ensures) (c .before .before .before .before .before .before .before .before .before .before .before .before .sequential-address .ensures)
+          (c .before .before .before .before .before .before .before .before .before .before .before .queued .ensures) (c .before .before .before .before .before .before .before .before .before .before .push-back .ensures) (o .0) (text-size s) (s .pre .1 .1),
+      (memory-taken (loan s) p m (fits f) (o .1 .0), o .1 .1 .size),
     )
 
 pub taken-spec : {M : Type 1} → statement M
@@ -127,16 +135,14 @@ taken-spec =
     (tie.spec
     fetch-requires
     returns
-    resolve-requires
     fetch-names-requires
     returns-2
     free-place-requires
     sequential-address-requires
     queued-requires
     push-back-requires
-    of-requires
     open-requires
-    mul-d
-    element-set-from-d
     same-length
+    same-length-2
+    same-length-3
     returns-3)

@@ -1,0 +1,2 @@
+// What lent arrays hold in two parts, rows and a number beside each: see specs/ and proofs/. There is no code here.
+pub fn nothing() {}

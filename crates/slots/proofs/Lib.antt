@@ -1,0 +1,4 @@
+pub mod Cases
+pub mod Back
+pub mod Rows
+pub mod Loops
