@@ -86,7 +86,7 @@ pub struct Intake {
 }
 
 // A fetch, where the operation's names are known to fit: `sources` and `destinations` are their numbers. `next`, `rows` and `history` are the window;
-// `fixed` is the machine's length of an operation, `latency` that of its class. It has two call sites, so that it stays a call (docs/DECISIONS.md, 57).
+// `fixed` is the machine's length of an operation, `latency` that of its class.
 // model: Calls.refusal, Calls.memory-after, of fetch; Scoreboard.fetched
 pub fn taken(
     board: Sequencer,
