@@ -36,7 +36,6 @@ use Rattle.bank.specs.declared.Units.{Units}
 use Rattle.bank.specs.View.{viewUnits, places, UnitsOk}
 use Rattle.slots.specs.View.{units-of, Lent, At, Put, LentAre}
 use Rattle.slots.proofs.Loops.{at-ok, lent-set, lent-kept, lent-on}
-use Rattle.writing.specs.declared.Finished.{Finished}
 use Rattle.writing.specs.declared.Ready.{Ready}
 use Rattle.writing.specs.declared.Blocked.{Blocked}
 use Rattle.writing.specs.declared.Turned.{Turned}
@@ -54,7 +53,7 @@ use Rattle.writing.specs.View.{
   TriedOk,
   TriedIs,
 }
-use Rattle.writing.proofs.Gathering.{ready-next, ready-end}
+use Rattle.writing.proofs.Gathering.{ready-next, ready-inside, ready-end}
 use Rattle.writing.proofs.Reasons.{there, not-there, is-there}
 
 -- ── The model's list, one by one ────────────────────────────────────────────
@@ -95,29 +94,29 @@ mark-end us = refl
 -- ── The loop that tries ─────────────────────────────────────────────────────
 
 -- The first k are turned away.
-pub record Tries (us : Units) (r : Ready) (t : Tried) (k : ℕ) : Type 0 where
+pub record Tries (ss : List ℕ) (us : Units) (r : Ready) (t : Tried) (k : ℕ) : Type 0 where
   pub most : k ≤ r .len
   pub len : t .len ≡ k
   pub size : length (t .items) ≡ 64
   pub each : All (TurnedOk us) (take (t .len) (t .items))
   pub found : t .found ≡ 64
-  pub is : (g : Legend) → Scan (trying (viewUnits g us)) [] (viewReady r) (r .len) (turned-away t) k
+  pub is : (g : Legend) → Scan (trying (viewUnits g us)) [] (viewReady ss r) (r .len) (turned-away t) k
 
-module _ {us : Units} {r : Ready} (ok : UnitsOk us) (rok : ReadyOk r) (few : r .len ≤ us .len)
-    (below : All (λ (q : ℕ × ℕ). q .1 < us .len) (viewReady r)) where
-  pub tries-first : {items : List Turned} → length items ≡ 64 → Tries us r (record { items = items; len = 0; found = 64 }) 0
+module _ {ss : List ℕ} {us : Units} {r : Ready} (ok : UnitsOk us) (rok : ReadyOk r) (few : r .len ≤ us .len)
+    (below : All (λ (q : ℕ × ℕ). q .1 < us .len) (viewReady ss r)) where
+  pub tries-first : {items : List Turned} → length items ≡ 64 → Tries ss us r (record { items = items; len = 0; found = 64 }) 0
   unfolding turned-away
   tries-first s = record { most = omega arith; len = refl; size = s; each = tt; found = refl; is = λ g. scan-first }
 
-  module _ {t : Tried} {k : ℕ} (e : Tries us r t k) (h : k < r .len) (d : Finished) where
-    pub tries-unit : getD (r .items) k d .unit < us .len
-    tries-unit = All-seen _ (viewReady r) below (ready-next rok d h)
+  module _ {t : Tried} {k : ℕ} (e : Tries ss us r t k) (h : k < r .len) (d : ℕ) where
+    pub tries-unit : getD (r .items) k d < us .len
+    tries-unit = ready-inside ss rok below d h
 
-    pub tries-next : {b : Blocked} → BlockedIs us b (λ g. write-blocked (viewUnits g us) (getD (r .items) k d .unit)) → is-none (viewBlocked b) ≡ false
-        → Tries us r (record { items = set (t .items) k (record { unit = getD (r .items) k d .unit; blocked = b }); len = k + 1; found = t .found }) (k + 1)
+    pub tries-next : {b : Blocked} → BlockedIs us b (λ g. write-blocked (viewUnits g us) (getD (r .items) k d)) → is-none (viewBlocked b) ≡ false
+        → Tries ss us r (record { items = set (t .items) k (record { unit = getD (r .items) k d; blocked = b }); len = k + 1; found = t .found }) (k + 1)
     unfolding turned-away viewTurned
     tries-next {b} m n =
-        let x : Turned = record { unit = getD (r .items) k d .unit; blocked = b } in
+        let x : Turned = record { unit = getD (r .items) k d; blocked = b } in
         let space : k < length (t .items) = omega (arith, ok .few, e .size) in
         let more : take (k + 1) (map viewTurned (set (t .items) k x)) ≡ turned-away t ++ viewTurned x ∷ [] =
         view-pushed viewTurned (t .items) k x space ∙ ap (λ j. take j (map viewTurned (t .items)) ++ viewTurned x ∷ []) (sym (e .len)) in
@@ -133,40 +132,40 @@ module _ {us : Units} {r : Ready} (ok : UnitsOk us) (rok : ReadyOk r) (few : r .
               (record { unit = tries-unit; reason = is-there (viewBlocked b) n; known = m .known }, tt));
           found = e .found;
           is = λ g.
-              scan-next (e .is g) (ready-next rok d h)
+              scan-next (e .is g) (ready-next ss rok d h)
               (λ qs.
               try-away (viewUnits g us) (turned-away t) _ (sym (m .is g) ∙ there (viewBlocked b) drain n) qs
               ∙ ap (λ l. trying (viewUnits g us) l qs) (sym more));
         }
 
-    pub tries-found : {b : Blocked} → BlockedIs us b (λ g. write-blocked (viewUnits g us) (getD (r .items) k d .unit)) → is-none (viewBlocked b) ≡ true
-        → TriedIs us (record { items = t .items; len = t .len; found = getD (r .items) k d .unit }) (λ g. try-writes (viewUnits g us) (viewReady r))
+    pub tries-found : {b : Blocked} → BlockedIs us b (λ g. write-blocked (viewUnits g us) (getD (r .items) k d)) → is-none (viewBlocked b) ≡ true
+        → TriedIs us (record { items = t .items; len = t .len; found = getD (r .items) k d }) (λ g. try-writes (viewUnits g us) (viewReady ss r))
     unfolding viewTried turned-away index
     tries-found {b} m n =
-        let j : ℕ = getD (r .items) k d .unit in
+        let j : ℕ = getD (r .items) k d in
         record {
           is = λ g.
               ap (tried (turned-away t)) (cond-lt (some j) none {m = j} {n = 64} (omega (arith, tries-unit, ok .few)))
-              ∙ scan-stop (e .is g) (ready-next rok d h) (try-found (viewUnits g us) (turned-away t) _ (sym (m .is g) ∙ not-there (viewBlocked b) n));
+              ∙ scan-stop (e .is g) (ready-next ss rok d h) (try-found (viewUnits g us) (turned-away t) _ (sym (m .is g) ∙ not-there (viewBlocked b) n));
           ok = record { few = omega (arith, e .len); size = e .size; each = e .each; found = λ q. tries-unit };
         }
 
-  pub tries-last : {t : Tried} {k : ℕ} → Tries us r t k → r .len ≤ k → TriedIs us t (λ g. try-writes (viewUnits g us) (viewReady r))
+  pub tries-last : {t : Tried} {k : ℕ} → Tries ss us r t k → r .len ≤ k → TriedIs us t (λ g. try-writes (viewUnits g us) (viewReady ss r))
   unfolding viewTried index
   tries-last {t} {k} e h =
       record {
         is = λ g.
             ap (λ f. tried (turned-away t) (index f)) (e .found)
-            ∙ scan-last (e .is g) (ready-end r h) (try-end (viewUnits g us) (turned-away t));
+            ∙ scan-last (e .is g) (ready-end ss r h) (try-end (viewUnits g us) (turned-away t));
         ok = record { few = omega (arith, e .len, e .most); size = e .size; each = e .each; found = λ q. absurd (omega (arith, e .found)) };
       }
 
 -- The list that was tried is that of the finished units.
-pub writable : {us : Units} {r : Ready} {t : Tried} → ReadyIs r (us .len) (λ g. ready-at 0 (viewUnits g us))
-    → TriedIs us t (λ g. try-writes (viewUnits g us) (viewReady r))
+pub writable : {ss : List ℕ} {us : Units} {r : Ready} {t : Tried} → ReadyIs ss r (us .len) (λ g. ready-at 0 (viewUnits g us))
+    → TriedIs us t (λ g. try-writes (viewUnits g us) (viewReady ss r))
     → TriedIs us t (λ g. writable-unit (viewUnits g us))
 unfolding writable-unit
-writable {us} m t = record { is = λ g. t .is g ∙ ap (try-writes (viewUnits g us)) (m .is g); ok = t .ok }
+writable {us = us} m t = record { is = λ g. t .is g ∙ ap (try-writes (viewUnits g us)) (m .is g); ok = t .ok }
 
 -- ── The loop that marks ─────────────────────────────────────────────────────
 

@@ -4,7 +4,7 @@ use mathlib.Core.Path.{_≡_}
 use mathlib.Core.Bool.{true}
 use mathlib.Core.Option.{Option, none, some}
 use mathlib.Core.List.{List, _∷_, _++_, map}
-use lib.ListN.{length, take, drop}
+use lib.ListN.{length, getD, take, drop}
 use Rattle.laws.specs.Optional.{is-some, get-or}
 use Rattle.laws.specs.Lists.{All}
 use Rattle.model.specs.Write.{Blocked as Reason, war, memory, drain, insert, Tried as Outcome, tried}
@@ -13,7 +13,6 @@ use Rattle.bank.specs.declared.Units.{Units}
 use Rattle.flight.specs.declared.Operands.{Operands}
 use Rattle.flight.specs.View.{Legend, written}
 use Rattle.bank.specs.View.{slots, UnitKnows}
-use Rattle.writing.specs.declared.Finished.{Finished}
 use Rattle.writing.specs.declared.Ready.{Ready}
 use Rattle.writing.specs.declared.Blocked.{Blocked}
 use Rattle.writing.specs.declared.Blocked.the-variants.{Free, War, Memory, Drain}
@@ -22,21 +21,22 @@ use Rattle.writing.specs.declared.Tried.{Tried}
 
 -- ── The finished units ──────────────────────────────────────────────────────
 
-abbrev pub viewFinished : Finished → ℕ × ℕ
-viewFinished f = (f .seq, f .unit)
+-- A unit with its number, of the numbers ss.
+abbrev pub viewFinished : List ℕ → ℕ → ℕ × ℕ
+viewFinished ss j = (getD ss j 0, j)
 
-unfoldable pub viewReady : Ready → List (ℕ × ℕ)
-viewReady r = take (r .len) (map viewFinished (r .items))
+unfoldable pub viewReady : List ℕ → Ready → List (ℕ × ℕ)
+viewReady ss r = take (r .len) (map (viewFinished ss) (r .items))
 
 pub record ReadyOk (r : Ready) : Type 0 where
   pub few : r .len ≤ 64
   pub size : length (r .items) ≡ 64
 
 -- The list of finished units of n units: the model's list whatever the legend.
-pub record ReadyIs (r : Ready) (n : ℕ) (m : Legend → List (ℕ × ℕ)) : Type 0 where
-  pub is : (g : Legend) → viewReady r ≡ m g
+pub record ReadyIs (ss : List ℕ) (r : Ready) (n : ℕ) (m : Legend → List (ℕ × ℕ)) : Type 0 where
+  pub is : (g : Legend) → viewReady ss r ≡ m g
   pub few : r .len ≤ n
-  pub below : All (λ (q : ℕ × ℕ). q .1 < n) (viewReady r)
+  pub below : All (λ (q : ℕ × ℕ). q .1 < n) (viewReady ss r)
   pub ok : ReadyOk r
 
 -- Where an entry of this number goes.
@@ -46,8 +46,8 @@ pub record PlaceFor (l : List (ℕ × ℕ)) (seq r : ℕ) : Type 0 where
 
 -- Room for one more at a place: those behind it stand one further on.
 pub record Opened (before after : Ready) (at : ℕ) : Type 0 where
-  pub front : take at (map viewFinished (after .items)) ≡ take at (viewReady before)
-  pub behind : drop (at + 1) (take (before .len + 1) (map viewFinished (after .items))) ≡ drop at (viewReady before)
+  pub front : take at (after .items) ≡ take at (before .items)
+  pub behind : drop (at + 1) (take (before .len + 1) (after .items)) ≡ drop at (take (before .len) (before .items))
   pub ok : ReadyOk after
 
 -- ── Why a unit may not write ────────────────────────────────────────────────
