@@ -12,6 +12,7 @@ pub mod Taking
 pub mod Dropping
 pub mod Fresh
 pub mod Recorded
+pub mod Admitting
 pub mod Advancing
 pub mod Working
 pub mod Stopping

@@ -114,6 +114,17 @@ module _ {e : ScoreboardPipeline} (v : Valid e) where
     pub takable : Takable (given (e .board) (e .window) (e .tracks) read written fixed cycles o)
     takable = record { engine = e; after = after; holds = holding }
 
+-- What a caller of a fetch sets is what it is to be.
+pub all-five
+    : (P : Window → ℕ → Decoded → Texts → RowText → Type 0) {w v : Window} {s n : ℕ} {d c : Decoded} {t u : Texts} {x y : RowText}
+    → w ≡ v → s ≡ n → d ≡ c → t ≡ u → x ≡ y → P v n c u y → P w s d t x
+all-five P {w} {s = s} {n} {d} {c} {t} {u} {y = y} p q m i j k =
+    subst (P w s d t) (sym j)
+    (subst (λ (z : Texts). P w s d z y) (sym i)
+    (subst (λ (z : Decoded). P w s z u y) (sym m)
+    (subst (λ (z : ℕ). P w z c u y) (sym q)
+    (subst (λ (z : Window). P z n c u y) (sym p) k))))
+
 abbrev Leaves : Given → ℕ → Intake → Tracks → RegisterTable → ScoreboardPipeline → Answer → Window → ℕ → Decoded → Texts → RowText → Type 0
 Leaves g lent r ts after e a w s d t x =
     Does (parts-of g e) (fetch (viewOp (g .op)) lent) (record { engine = taken-engine g r ts after w s d t x e; answer = a })
@@ -125,13 +136,7 @@ pub does-fetch
     → s ≡ g .window .next % g .window .history → d ≡ decoded-of (g .op) (r .board .«fetch_pc») → t ≡ texts-of (g .op) → x ≡ row-text (g .op)
     → Tells (r .no) a
     → Does (parts-of g e) (fetch (viewOp (g .op)) lent) (record { engine = taken-engine g r ts after w s d t x e; answer = a })
-does-fetch {g} {lent} {r} {ts} k z {e} {after = f} h {w} {s} {d} {t} {x} {a} p q m i j y =
-    subst (λ (u : Window). Leaves g lent r ts f e a u s d t x) (sym p)
-    (subst (λ (n : ℕ). Leaves g lent r ts f e a (opened (g .window)) n d t x) (sym q)
-    (subst (λ (u : Decoded). Leaves g lent r ts f e a (opened (g .window)) (g .window .next % g .window .history) u t x) (sym m)
-    (subst (λ (u : Texts). Leaves g lent r ts f e a (opened (g .window)) (g .window .next % g .window .history) (decoded-of (g .op) (r .board .«fetch_pc»)) u x) (sym i)
-    (subst (λ (u : RowText). Leaves g lent r ts f e a (opened (g .window)) (g .window .next % g .window .history) (decoded-of (g .op) (r .board .«fetch_pc»)) (texts-of (g .op)) u) (sym j)
-    (k .takes z e f h a y)))))
+does-fetch {g} {lent} {r} {ts} k z {e} {after = f} h {a = a} p q m i j y = all-five (Leaves g lent r ts f e a) p q m i j (k .takes z e f h a y)
 
 -- The slot of a row.
 pub slot-there : {w : Window} → WindowOk w → {i s : ℕ} → SlotOf w i s → s < 256

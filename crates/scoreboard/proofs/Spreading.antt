@@ -1,5 +1,5 @@
 -- Units and tracks of an engine laid out in arrays and taken up again, and an operation's numbers by its own counts.
-use Prim.Native.Nat.{ℕ}
+use Prim.Native.Nat.{ℕ, _≤_}
 use mathlib.Core.Path.{_≡_, sym, subst, ap, ap₂, _∙_}
 use mathlib.Core.Bool.{Bool, true, false}
 use mathlib.Core.List.{List, map}
@@ -21,6 +21,7 @@ use Rattle.registers.proofs.Resolving.{sources-listed, writes-listed}
 use Rattle.config.specs.declared.Machine.{Machine}
 use Rattle.timeline.specs.declared.Tracks.{Tracks}
 use Rattle.timeline.specs.declared.Window.{Window}
+use Rattle.timeline.specs.View.{WindowOk}
 use Rattle.tracks.specs.View.{tracks-of, TracksHeld}
 use Rattle.slots.specs.View.{units-of, Holds}
 use Rattle.bank.specs.declared.Units.{Units}
@@ -29,7 +30,7 @@ use Rattle.board.specs.declared.Sequencer.{Sequencer}
 use Rattle.board.specs.View.{board-of}
 use Rattle.board.specs.Contracts.{Starts}
 use Rattle.scoreboard.specs.declared.fetch.Intake.{Intake}
-use Rattle.scoreboard.specs.Advance.{Restable, Rested, Rests, RestWrites}
+use Rattle.scoreboard.specs.Advance.{window-of, Restable, Rested, Rests, RestWrites}
 use Rattle.scoreboard.specs.Taking.{Given, given, Takable, Takes, TakeWrites}
 use Rattle.scoreboard.proofs.Naming.{reads-named, writes-named}
 
@@ -84,7 +85,13 @@ module _ {b : Board} {o : Sequencer} (q : b ≡ board-of o (b .units)) {us : Lis
 pub board-made : {s : Sequencer} {b : Board} {us g : Units} → b ≡ board-of s g → g ≡ us → b ≡ board-of s us
 board-made {s = s} p q = p ∙ ap (board-of s) q
 
-abbrev with-counts : Resolved → Bool → ℕ → ℕ → Resolved
+-- A full window holds as many rows as its history.
+pub full-window : {w : Window} → WindowOk w → w .history ≤ w .held → window-of (w .next) (w .history) (w .held) ≡ w
+full-window {w} k h =
+    let p : w .history ≡ w .held = omega (arith, k .few, h) in
+    ap₂ (window-of (w .next)) p (sym p)
+
+abbrev pub with-counts : Resolved → Bool → ℕ → ℕ → Resolved
 with-counts x b n m =
     record {
       fits = b;

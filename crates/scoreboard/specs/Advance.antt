@@ -22,6 +22,7 @@ use Rattle.bank.specs.declared.Units.{Units}
 use Rattle.board.specs.View.{board-of, BoardOk}
 use Rattle.board.specs.Contracts.{Open}
 use Rattle.scoreboard.specs.declared.advance.Rest.{Rest}
+use Rattle.scoreboard.specs.declared.advance.Carried.{Carried}
 use Rattle.scoreboard.specs.declared.ScoreboardPipeline.{ScoreboardPipeline}
 use Rattle.scoreboard.specs.declared.Answer.{Answer}
 use Rattle.scoreboard.specs.declared.Next.{Next}
@@ -83,6 +84,9 @@ pub record Rested : Type 0 where
 
 abbrev pub rested : Rest → Units → Tracks → Rested
 rested r us ts = record { board = board-of (r .board) us; tracks = ts; known = r .known; held = r .held; answer = r .answer }
+
+abbrev pub by-value : Carried → Rested
+by-value r = record { board = r .board; tracks = r .tracks; known = r .known; held = r .held; answer = r .answer }
 
 -- It is the advance of every engine with these parts.
 abbrev pub Rests : Board → Window → Tracks → Machine → ℕ → ℕ → Option ℕ → ℕ → Rested → Type 0

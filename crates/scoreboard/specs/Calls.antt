@@ -1,19 +1,22 @@
 -- What making and a call say: answer, engine and lent memory are the model's, and the engine is valid again.
 use Prim.Native.Nat.{ℕ}
 use mathlib.Core.Path.{_≡_}
-use mathlib.Core.Option.{Option, none, some}
+use mathlib.Core.Bool.{Bool, cond}
+use mathlib.Core.Option.{none, some}
 use mathlib.Core.List.{List}
 use Rattle.laws.specs.Optional.{when-some}
 use Rattle.model.specs.Config.{PipelineShape}
 use Rattle.model.specs.State.{new}
-use Rattle.model.specs.Calls.{Call, retire, make-refusal, refused, done, refusal, answer, after}
+use Rattle.model.specs.Calls.{Call, start, retire, make-refusal, refused, done, refusal, answer, after}
 use Rattle.checks.specs.Numbered.{numbered}
+use Rattle.flight.specs.declared.pool.DecodedPool.{DecodedPool}
 use Rattle.board.specs.declared.Board.{Board}
 use Rattle.board.specs.View.{board-of}
 use Rattle.scoreboard.specs.declared.ScoreboardPipeline.{ScoreboardPipeline}
 use Rattle.scoreboard.specs.declared.Answer.{Answer}
 use Rattle.scoreboard.specs.declared.Next.{Next}
 use Rattle.scoreboard.specs.declared.Settled.{Settled}
+use Rattle.scoreboard.specs.declared.AfterWrite.{AfterWrite}
 use Rattle.scoreboard.specs.View.{viewEngine, viewAnswer}
 use Rattle.scoreboard.specs.Valid.{Valid}
 
@@ -54,3 +57,23 @@ abbrev pub Retires : Board → Settled → Type 0
 Retires b r =
     (e : ScoreboardPipeline) → Valid (with-board b e) → (a : Answer) → Tells (r .no) a
     → Does (with-board b e) retire (record { engine = with-board (board-of (r .board) (b .units)) e; answer = a })
+
+-- The engine with this board and this pool, else as it is.
+abbrev pub with-pool : Board → DecodedPool → ScoreboardPipeline → ScoreboardPipeline
+with-pool b ds e =
+    record {
+      board = b;
+      window = e .window;
+      tracks = e .tracks;
+      decoded = ds;
+      machine = e .machine;
+      table = e .table;
+      texts = e .texts;
+      rows = e .rows;
+    }
+
+-- It is the start, or else the retire, of every engine with this board and this pool.
+abbrev pub WritesResult : Board → DecodedPool → Bool → AfterWrite → Type 0
+WritesResult b ds starts r =
+    (e : ScoreboardPipeline) → Valid (with-pool b ds e)
+    → Does (with-pool b ds e) (cond starts start retire) (record { engine = with-pool (r .board) ds e; answer = r .answer })

@@ -10,6 +10,7 @@ use Rattle.model.specs.Calls.{fetch, bad-info, too-many, memory-after}
 use Rattle.op.specs.declared.MaybeNumber.{MaybeNumber}
 use Rattle.op.specs.declared.PipelineOp.{PipelineOp}
 use Rattle.op.specs.View.{viewOp}
+use Rattle.config.specs.declared.Machine.{Machine}
 use Rattle.config.specs.View.{viewMachine}
 use Rattle.registers.specs.declared.RegisterTable.{RegisterTable}
 use Rattle.registers.specs.declared.Resolved.{Resolved}
@@ -24,6 +25,7 @@ use Rattle.timeline.specs.View.{opened}
 use Rattle.board.specs.declared.Board.{Board}
 use Rattle.board.specs.View.{board-of}
 use Rattle.scoreboard.specs.declared.fetch.Intake.{Intake}
+use Rattle.scoreboard.specs.declared.fetch.Admitted.{Admitted}
 use Rattle.scoreboard.specs.declared.ScoreboardPipeline.{ScoreboardPipeline}
 use Rattle.scoreboard.specs.declared.Answer.{Answer}
 use Rattle.scoreboard.specs.View.{viewEngine}
@@ -142,3 +144,53 @@ abbrev pub TakeWrites : Given → List ℕ → List ℕ → Type 0
 TakeWrites g before after =
     (e : ScoreboardPipeline) (t : RegisterTable) → Holds g e t
     → after ≡ memory-after (viewEngine (parts-of g e)) (fetch (viewOp (g .op)) (length before)) before
+
+-- ── By value ────────────────────────────────────────────────────────────────
+
+-- The engine with these parts, else as it is.
+abbrev pub engine-by : Board → Window → Tracks → Machine → RegisterTable → ScoreboardPipeline → ScoreboardPipeline
+engine-by b w ts m t e =
+    record { board = b; window = w; tracks = ts; decoded = e .decoded; machine = m; table = t; texts = e .texts; rows = e .rows }
+
+-- They are those of a valid engine.
+pub record Admissible (b : Board) (w : Window) (ts : Tracks) (m : Machine) (t : RegisterTable) : Type 0 where
+  pub engine : ScoreboardPipeline
+  pub valid : Valid (engine-by b w ts m t engine)
+
+-- The engine with the parts that a fetch hands back, the window, the operation and its text at its place, and the row in a slot.
+abbrev pub admitted-engine : Admitted → Window → Machine → ℕ → Decoded → Texts → RowText → ScoreboardPipeline → ScoreboardPipeline
+admitted-engine r w m slot d t x e =
+    record {
+      board = r .board;
+      window = w;
+      tracks = r .tracks;
+      decoded = record { items = set (e .decoded .items) (r .place) d };
+      machine = m;
+      table = r .table;
+      texts = record { items = set (e .texts .items) (r .place) t };
+      rows = record { items = set (e .rows .items) slot x };
+    }
+
+-- It is the fetch of every engine with these parts.
+pub record Admits (b : Board) (w : Window) (ts : Tracks) (m : Machine) (t : RegisterTable) (o : PipelineOp) (lent : ℕ) (r : Admitted) : Type 0 where
+  -- As in Takes.
+  pub place : r .no ≡ 0 → r .place < 80
+  pub good : r .no ≡ 0 → bad-info (viewOp o .info) ≡ false
+  pub next : r .no ≡ 0 → w .next < max64
+  pub admits
+      : r .no ≡ 0 → (e : ScoreboardPipeline) → Valid (engine-by b w ts m t e) → (a : Answer) → Tells (r .no) a
+      → Does (engine-by b w ts m t e) (fetch (viewOp o) lent)
+      (record {
+        engine =
+            admitted-engine r (opened w) m (w .next % w .history) (decoded-of o (r .board .«fetch_pc»)) (texts-of o) (row-text o) e;
+        answer = a;
+      })
+  -- Else the parts are as they were.
+  pub refuses
+      : (r .no ≡ 0 → ⊥) → (e : ScoreboardPipeline) → Valid (engine-by b w ts m t e) → (a : Answer) → Tells (r .no) a
+      → Does (engine-by b w ts m t e) (fetch (viewOp o) lent) (record { engine = engine-by (r .board) w (r .tracks) m (r .table) e; answer = a })
+
+abbrev pub AdmitWrites : Board → Window → Tracks → Machine → RegisterTable → PipelineOp → List ℕ → List ℕ → Type 0
+AdmitWrites b w ts m t o before after =
+    (e : ScoreboardPipeline) → Valid (engine-by b w ts m t e)
+    → after ≡ memory-after (viewEngine (engine-by b w ts m t e)) (fetch (viewOp o) (length before)) before

@@ -2,10 +2,12 @@
 use crate::Answer;
 use crate::Next;
 use crate::ScoreboardPipeline;
+use board::Board;
 use board::Sequencer;
 use config::Machine;
 use flight::Queue;
 use op::MaybeNumber;
+use timeline::Tracks;
 use timeline::Window;
 ghost use mathlib.Core.Path.{_≡_};
 ghost use Prim.Native.Nat.{ℕ, _*_, _≤_};
@@ -23,7 +25,7 @@ ghost use Rattle.board.specs.View.{Frame, viewBoard, board-of};
 ghost use Rattle.scoreboard.specs.View.{viewEngine, viewAnswer};
 ghost use Rattle.scoreboard.specs.Valid.{Valid};
 ghost use Rattle.scoreboard.specs.Calls.{Does};
-ghost use Rattle.scoreboard.specs.Advance.{dropped-cells, window-of, Restable, rested, Rests, RestWrites};
+ghost use Rattle.scoreboard.specs.Advance.{dropped-cells, window-of, Restable, rested, by-value, Rests, RestWrites};
 
 // The rows after a redirect, if there is one: an FL cell for each queued operation.
 fn flushed_rows(
@@ -151,6 +153,69 @@ pub fn advanced(
     }
 }
 
+// What an advance changes of an engine by value, and its answer.
+pub struct Carried {
+    pub board: Board,
+    pub tracks: Tracks,
+    pub known: usize,
+    pub held: usize,
+    pub answer: Answer,
+}
+
+// The rest of a cycle, of a board and tracks by value. It has two call sites, so that it stays a call (docs/DECISIONS.md, 57).
+fn rest_of(
+    board: Board,
+    tracks: Tracks,
+    next: u64,
+    rows: usize,
+    history: usize,
+    machine: Machine,
+    known: usize,
+    held: usize,
+    redirect: MaybeNumber,
+    cells: &mut [u8],
+) -> Carried
+    requires { ⌜ Restable board (window-of next rows history) tracks machine ⌝ }
+    ensures done { λ r. ⌜ Rests board (window-of next rows history) tracks machine known held (viewMaybeNumber redirect) (length (now (cells .entry))) (by-value r) ⌝ }
+    ensures memory { λ r. ⌜ RestWrites board (window-of next rows history) tracks machine known held (viewMaybeNumber redirect) (now (cells .entry)) (now (cells .exit)) ⌝ }
+{
+    let units = board.units;
+    let n = units.len;
+    let mut us = [[0u8; 40]; 64];
+    let mut ss = [0u64; 64];
+    slots::spread(units, &mut us, &mut ss);
+    let mut ts = [[0u8; 2]; 256];
+    let mut fs = [0u64; 256];
+    tracks::spread(tracks, &mut ts, &mut fs);
+    let r = advanced(
+        Sequencer::of(board),
+        &mut us,
+        &mut ss,
+        n,
+        &mut ts,
+        &mut fs,
+        next,
+        rows,
+        history,
+        machine,
+        known,
+        held,
+        redirect,
+        cells,
+    );
+    let after = r.board;
+    let answer = r.answer;
+    let b = after.board(slots::gathered(&us, &ss, n));
+    let t = tracks::gathered(&ts, &fs);
+    Carried {
+        board: b,
+        tracks: t,
+        known: r.known,
+        held: r.held,
+        answer,
+    }
+}
+
 impl ScoreboardPipeline {
     // The rest of the cycle, and the address to fetch next.
     pub fn advance(mut self, redirect: MaybeNumber, cells: &mut [u8]) -> Next
@@ -161,36 +226,44 @@ impl ScoreboardPipeline {
         let board = self.board;
         let tracks = self.tracks;
         let machine = self.machine;
-        let units = board.units;
-        let n = units.len;
-        let mut us = [[0u8; 40]; 64];
-        let mut ss = [0u64; 64];
-        slots::spread(units, &mut us, &mut ss);
-        let mut ts = [[0u8; 2]; 256];
-        let mut fs = [0u64; 256];
-        tracks::spread(tracks, &mut ts, &mut fs);
-        let r = advanced(
-            Sequencer::of(board),
-            &mut us,
-            &mut ss,
-            n,
-            &mut ts,
-            &mut fs,
-            self.window.next,
-            self.window.held,
-            self.window.history,
-            machine,
-            self.table.known,
-            self.table.held,
-            redirect,
-            cells,
-        );
+        let next = self.window.next;
+        let rows = self.window.held;
+        let history = self.window.history;
+        let known = self.table.known;
+        let held = self.table.held;
+        // Of a full window `rows` and `history` are one number: said so, the calls are not alike, and both stay.
+        let r = if rows < history {
+            rest_of(
+                board,
+                tracks,
+                next,
+                rows,
+                history,
+                machine,
+                known,
+                held,
+                redirect,
+                cells,
+            )
+        } else {
+            rest_of(
+                board,
+                tracks,
+                next,
+                history,
+                rows,
+                machine,
+                known,
+                held,
+                redirect,
+                cells,
+            )
+        };
         let after = r.board;
+        let tracks1 = r.tracks;
         let answer = r.answer;
-        let b = after.board(slots::gathered(&us, &ss, n));
-        let t = tracks::gathered(&ts, &fs);
-        self.board = b;
-        self.tracks = t;
+        self.board = after;
+        self.tracks = tracks1;
         self.table.known = r.known;
         self.table.held = r.held;
         Next {

@@ -1,9 +1,10 @@
 // A fetch: the operation's names become numbers, and it goes into the queue with a place in the pool.
-use crate::Answer;
 use crate::Next;
 use crate::ScoreboardPipeline;
 use crate::done_or;
+use board::Board;
 use board::Sequencer;
+use config::Machine;
 use flight::MaybeHazard;
 use flight::Operands;
 use flight::Queued;
@@ -11,7 +12,9 @@ use flight::pool::Decoded;
 use flight::pool::Texts;
 use op::MaybeNumber;
 use op::PipelineOp;
+use registers::RegisterTable;
 use timeline::RowText;
+use timeline::Tracks;
 use timeline::Window;
 ghost use mathlib.Core.Path.{_≡_};
 ghost use lib.ListN.{length};
@@ -29,7 +32,7 @@ ghost use Rattle.scoreboard.specs.Valid.{Valid};
 ghost use Rattle.scoreboard.specs.Calls.{Does};
 ghost use Rattle.scoreboard.specs.Advance.{window-of};
 ghost use Rattle.scoreboard.specs.Fetching.{row-text, operands-by, Queueing};
-ghost use Rattle.scoreboard.specs.Taking.{given, Takable, Takes, TakeWrites};
+ghost use Rattle.scoreboard.specs.Taking.{given, Takable, Takes, TakeWrites, Admissible, Admits, AdmitWrites};
 
 // model: Scoreboard.fetched-op
 fn queued(
@@ -150,6 +153,102 @@ pub fn taken(
     }
 }
 
+// What a fetch changes of an engine by value, but for what stands at `place` in the pool and the row of its number, which the caller sets; where `no`
+// is not 0, what came in.
+pub struct Admitted {
+    pub board: Board,
+    pub tracks: Tracks,
+    pub table: RegisterTable,
+    pub place: usize,
+    pub no: u8,
+}
+
+// A fetch, of board, tracks and names by value. It has two call sites, so that it stays a call (docs/DECISIONS.md, 57).
+fn admit(
+    board: Board,
+    tracks: Tracks,
+    next: u64,
+    rows: usize,
+    history: usize,
+    machine: Machine,
+    table: RegisterTable,
+    op: PipelineOp,
+    cells: &mut [u8],
+) -> Admitted
+    requires { ⌜ Admissible board (window-of next rows history) tracks machine table ⌝ }
+    ensures done { λ r. ⌜ Admits board (window-of next rows history) tracks machine table op (length (now (cells .entry))) r ⌝ }
+    ensures memory { λ r. ⌜ AdmitWrites board (window-of next rows history) tracks machine table op (now (cells .entry)) (now (cells .exit)) ⌝ }
+{
+    let first = checks::fetch(board.front.in_cycle, board.front.invited, op, next);
+    if first != 0 {
+        return Admitted {
+            board,
+            tracks,
+            table,
+            place: 80,
+            no: first,
+        };
+    }
+    let x = table.resolve(op);
+    if !x.fits {
+        return Admitted {
+            board,
+            tracks,
+            table,
+            place: 80,
+            no: 10,
+        };
+    }
+    let units = board.units;
+    let n = units.len;
+    let mut us = [[0u8; 40]; 64];
+    let mut ss = [0u64; 64];
+    slots::spread(units, &mut us, &mut ss);
+    let mut ts = [[0u8; 2]; 256];
+    let mut fs = [0u64; 256];
+    tracks::spread(tracks, &mut ts, &mut fs);
+    let fixed = machine.instruction_bytes;
+    let class = op.class;
+    let sources = x.sources;
+    let destinations = x.destinations;
+    let r = taken(
+        Sequencer::of(board),
+        &us,
+        &ss,
+        n,
+        &mut ts,
+        &mut fs,
+        next,
+        rows,
+        history,
+        sources,
+        destinations,
+        fixed,
+        machine.latency(class),
+        op,
+        cells,
+    );
+    let no = r.no;
+    if no != 0 {
+        return Admitted {
+            board,
+            tracks,
+            table,
+            place: 80,
+            no,
+        };
+    }
+    let b = r.board;
+    let names = x.table;
+    Admitted {
+        board: b.board(units),
+        tracks: tracks::gathered(&ts, &fs),
+        table: names,
+        place: r.place,
+        no,
+    }
+}
+
 impl ScoreboardPipeline {
     // Accept a decoded operation into the fetch queue.
     pub fn fetched(mut self, op: PipelineOp, cells: &mut [u8]) -> Next
@@ -161,76 +260,37 @@ impl ScoreboardPipeline {
         let tracks = self.tracks;
         let machine = self.machine;
         let table = self.table;
-        let window = self.window;
-        let next = window.next;
-        let fixed = machine.instruction_bytes;
-        let class = op.class;
-        let first = checks::fetch(board.front.in_cycle, board.front.invited, op, next);
-        if first != 0 {
-            return Next {
-                engine: self,
-                answer: Answer::Refused(first),
-            };
-        }
-        let x = table.resolve(op);
-        if !x.fits {
-            return Next {
-                engine: self,
-                answer: Answer::Refused(10),
-            };
-        }
-        let units = board.units;
-        let n = units.len;
-        let mut us = [[0u8; 40]; 64];
-        let mut ss = [0u64; 64];
-        slots::spread(units, &mut us, &mut ss);
-        let mut ts = [[0u8; 2]; 256];
-        let mut fs = [0u64; 256];
-        tracks::spread(tracks, &mut ts, &mut fs);
-        let sources = x.sources;
-        let destinations = x.destinations;
-        let r = taken(
-            Sequencer::of(board),
-            &us,
-            &ss,
-            n,
-            &mut ts,
-            &mut fs,
-            next,
-            window.held,
-            window.history,
-            sources,
-            destinations,
-            fixed,
-            machine.latency(class),
-            op,
-            cells,
-        );
-        let no = r.no;
-        if no != 0 {
-            return Next {
-                engine: self,
-                answer: done_or(no),
-            };
-        }
+        let mut window = self.window;
+        let seq = window.next;
+        let rows = window.held;
+        let history = window.history;
+        // As in advance.
+        let r = if rows < history {
+            admit(board, tracks, seq, rows, history, machine, table, op, cells)
+        } else {
+            admit(board, tracks, seq, history, rows, machine, table, op, cells)
+        };
+        let mut decoded = self.decoded;
         let mut texts = self.texts;
         let mut lines = self.rows;
-        let mut decoded = self.decoded;
-        let place = r.place;
-        let s = window.slot(next);
-        let b = r.board;
-        let t = Texts::of(op);
-        let row = row_of(op);
-        let d = Decoded::of(op, b.fetch_pc);
-        texts.items[place] = t;
-        lines.items[s] = row;
-        decoded.items[place] = d;
-        let names = x.table;
-        let after = b.board(units);
-        let rows = tracks::gathered(&ts, &fs);
+        let after = r.board;
+        let no = r.no;
+        if no == 0 {
+            let place = r.place;
+            let s = window.slot(seq);
+            let d = Decoded::of(op, after.fetch_pc);
+            let t = Texts::of(op);
+            let x = row_of(op);
+            decoded.items[place] = d;
+            texts.items[place] = t;
+            lines.items[s] = x;
+            window = window.opened();
+        }
+        let tracks1 = r.tracks;
+        let names = r.table;
         self.board = after;
-        self.window = window.opened();
-        self.tracks = rows;
+        self.window = window;
+        self.tracks = tracks1;
         self.decoded = decoded;
         self.table = names;
         self.texts = texts;

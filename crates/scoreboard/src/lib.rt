@@ -37,11 +37,11 @@ ghost use Rattle.flight.specs.Pool.{DecodedPoolOk};
 ghost use Rattle.bank.specs.View.{UnitsOk};
 ghost use Rattle.slots.specs.View.{units-of, Sized, Lent};
 ghost use Rattle.stalls.specs.View.{LogOk};
-ghost use Rattle.board.specs.View.{board-of};
+ghost use Rattle.board.specs.View.{board-of, BoardOk};
 ghost use Rattle.scoreboard.specs.View.{viewEngine, viewOffer, viewAnswer};
 ghost use Rattle.scoreboard.specs.Valid.{Parts, Valid};
 ghost use Rattle.scoreboard.specs.Answers.{new-state, offer-with, Offers, Resolves};
-ghost use Rattle.scoreboard.specs.Calls.{Makes, Does, Retires};
+ghost use Rattle.scoreboard.specs.Calls.{Makes, Does, Retires, WritesResult};
 
 // What a cycle works on comes first, then what a fetch writes. `window.next` is the number of the next operation, and the id of its row.
 pub struct ScoreboardPipeline {
@@ -201,6 +201,45 @@ pub fn retired(board: Sequencer, us: &[[u8; 40]], ss: &[u64]) -> Settled
     }
 }
 
+// The board after a start or a retire, and the answer.
+pub struct AfterWrite {
+    pub board: Board,
+    pub answer: Answer,
+}
+
+// A start, or else a retire, of a board by value. Both call it, so that it stays a call (docs/DECISIONS.md, 57).
+fn write_result(board: Board, decoded: DecodedPool, starts: bool) -> AfterWrite
+    requires { ⌜ BoardOk board ⌝ }
+    requires { ⌜ DecodedPoolOk decoded ⌝ }
+    ensures { λ r. ⌜ WritesResult board decoded starts r ⌝ }
+{
+    if starts && board.front.in_cycle {
+        return AfterWrite {
+            board,
+            answer: Answer::Refused(4),
+        };
+    }
+    let units = board.units;
+    let n = units.len;
+    let mut us = [[0u8; 40]; 64];
+    let mut ss = [0u64; 64];
+    slots::spread(units, &mut us, &mut ss);
+    if starts {
+        let b = cycle::start(Sequencer::of(board), &mut us, &mut ss, n);
+        let answer = start_answer(&us, &ss, n, decoded, b.offer.writing);
+        return AfterWrite {
+            board: b.board(slots::gathered(&us, &ss, n)),
+            answer,
+        };
+    }
+    let r = retired(Sequencer::of(board), &us, &ss);
+    let b = r.board;
+    AfterWrite {
+        board: b.board(units),
+        answer: done_or(r.no),
+    }
+}
+
 impl ScoreboardPipeline {
     // A new engine; beside a refusal stands one of no use.
     // model: Calls.make and Calls.make-memory
@@ -230,20 +269,9 @@ impl ScoreboardPipeline {
     {
         let board = self.board;
         let decoded = self.decoded;
-        if board.front.in_cycle {
-            return Next {
-                engine: self,
-                answer: Answer::Refused(4),
-            };
-        }
-        let units = board.units;
-        let n = units.len;
-        let mut us = [[0u8; 40]; 64];
-        let mut ss = [0u64; 64];
-        slots::spread(units, &mut us, &mut ss);
-        let b = cycle::start(Sequencer::of(board), &mut us, &mut ss, n);
-        let answer = start_answer(&us, &ss, n, decoded, b.offer.writing);
-        let after = b.board(slots::gathered(&us, &ss, n));
+        let b = write_result(board, decoded, true);
+        let after = b.board;
+        let answer = b.answer;
         self.board = after;
         Next {
             engine: self,
@@ -256,17 +284,14 @@ impl ScoreboardPipeline {
         ensures { λ r. ⌜ Does self retire r ⌝ }
     {
         let board = self.board;
-        let units = board.units;
-        let mut us = [[0u8; 40]; 64];
-        let mut ss = [0u64; 64];
-        slots::spread(units, &mut us, &mut ss);
-        let r = retired(Sequencer::of(board), &us, &ss);
-        let b = r.board;
-        let after = b.board(units);
+        let decoded = self.decoded;
+        let b = write_result(board, decoded, false);
+        let after = b.board;
+        let answer = b.answer;
         self.board = after;
         Next {
             engine: self,
-            answer: done_or(r.no),
+            answer,
         }
     }
 
@@ -298,18 +323,17 @@ impl ScoreboardPipeline {
         ensures { λ r. ⌜ Does self (resolve «actual_next») r ⌝ }
     {
         let board = self.board;
-        let no = checks::resolve(board.front.in_cycle, board.offer.writing);
-        if no != 0 {
-            return Next {
-                engine: self,
-                answer: Answer::Refused(no),
-            };
-        }
         let units = board.units;
         let decoded = self.decoded;
+        let no = checks::resolve(board.front.in_cycle, board.offer.writing);
+        let answer = if no != 0 {
+            done_or(no)
+        } else {
+            resolve_answer(units, decoded, board.offer.writing, actual_next)
+        };
         Next {
             engine: self,
-            answer: resolve_answer(units, decoded, board.offer.writing, actual_next),
+            answer,
         }
     }
 }
