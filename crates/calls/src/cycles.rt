@@ -83,6 +83,8 @@ pub fn play_cycles(
     lookup::spread(table, &mut bs, &mut ls);
     let mut known = table.known;
     let mut held = table.held;
+    let mut hs = [0u8; 1024];
+    lookup::hint(&bs, &ls, held, &mut hs);
     let mut texts = engine.texts;
     let mut rows = engine.rows;
     let mut next = at;
@@ -95,7 +97,7 @@ pub fn play_cycles(
         let tag = list[here];
         if tag == 5 {
             let op = op_at(list, here + 1);
-            let looked = lookup::look(&bs, &ls, held, op);
+            let looked = lookup::look(&bs, &ls, &hs, held, op);
             more = looked.all;
             if more {
                 timeline::cells::fill(out, to, size, 0);

@@ -1,13 +1,16 @@
 -- Names in lent arrays: read by place, searched, and the operation that they resolve.
-use Prim.Native.Nat.{ℕ, _≤_, _<_}
-use mathlib.Core.Path.{_≡_, refl, sym, subst, ap, ap₂}
-use mathlib.Core.Bool.{true}
+use Prim.Native.Nat.{ℕ, zero, suc, _+_, _≤_, _<_}
+use mathlib.Core.Path.{_≡_, refl, sym, subst, ap, ap₂, _∙_}
+use mathlib.Core.Bool.{true, false}
 use mathlib.Core.List.{List, [], _∷_, map}
 use native.Mathlib.Omega.{arith}
-use lib.ListN.{length, getD, take, drop}
-use Rattle.laws.specs.Texts.{Text}
-use Rattle.laws.proofs.Slices.{Seen, view-next, view-length, slice-end}
+use native.Mathlib.Numerals.{add-one}
+use lib.Seq.{drop-nil}
+use lib.ListN.{length, length-set, getD, set, take, drop}
+use Rattle.laws.specs.Texts.{Text, same}
+use Rattle.laws.proofs.Slices.{Seen, All-drop, view-next, view-length, slice-end}
 use Rattle.lent.proofs.Parts.{parts-size, part-at}
+use Rattle.runs.proofs.Names.{Apart, Distinct}
 use Rattle.model.specs.Registers.{interned, intern, numbered, intern-all, operands}
 use Rattle.op.specs.declared.Name.{Name}
 use Rattle.op.specs.declared.PipelineOp.{PipelineOp}
@@ -15,10 +18,10 @@ use Rattle.op.specs.View.{viewName, viewOp}
 use Rattle.registers.specs.declared.RegisterTable.{RegisterTable}
 use Rattle.registers.specs.View.{viewHeld, TableOk}
 use Rattle.registers.specs.Contracts.{ResolvedTo}
-use Rattle.registers.proofs.Interning.{names-held}
+use Rattle.registers.proofs.Interning.{intern-here, intern-behind, names-held, same-yes}
 use Rattle.registers.proofs.NameTable.{spare}
 use Rattle.registers.proofs.Resolving.{first-four, resolved-all}
-use Rattle.lookup.specs.Lookup.{name-of, names-of, NamesSized, first-names, resolved-by}
+use Rattle.lookup.specs.Lookup.{name-of, names-of, NamesSized, first-names, bucket-of, hinted, resolved-by}
 
 module _ {bs : List (List ℕ)} {ls : List ℕ} (s : NamesSized bs ls) {held : ℕ} (few : held ≤ 256) where
   room : held ≤ length (names-of bs ls)
@@ -61,3 +64,52 @@ looked {ns} o rs d {t} e ok p q n m few fewer =
       same = refl;
       numbers = record { sources = few; sources-size = n; destinations = fewer; destinations-size = refl };
     })
+
+-- ── Hints ───────────────────────────────────────────────────────────────────
+
+apart-drop : (x v : Text) (xs : List Text) (k : ℕ) {rest : List Text} → Apart x xs → drop k xs ≡ v ∷ rest → same x v ≡ false
+apart-drop x v xs k d p = subst (Apart x) p (All-drop (λ (y : Text). same x y ≡ false) k xs d) .0
+
+-- In a table of distinct names the place of a name is its number.
+pub only-place : (a v : Text) (ns : List Text) (k : ℕ) {rest : List Text} → Distinct ns → drop k ns ≡ v ∷ rest → same v a ≡ true
+    → k ≡ intern ns a .number
+only-place a v [] k {rest} d p e =
+    let z : _≡_ {A = ℕ} 0 (suc (length rest)) = ap length (sym (drop-nil {A = Text} k) ∙ p) in absurd (let y : ⊥ = omega arith in y)
+only-place a v (x ∷ xs) zero d p e =
+    let q : x ≡ v = ap (λ (l : List Text). getD l 0 x) p in
+    sym (ap (λ r. r .number) (intern-here a x xs (subst (λ y. same y a ≡ true) (sym q) e)))
+only-place a v (x ∷ xs) (suc k) d p e =
+    let f : same x a ≡ false = subst (λ y. same x y ≡ false) (same-yes v a e) (apart-drop x v xs k (d .0) p) in
+    ap suc (only-place a v xs k (d .1) p e) ∙ sym (ap (λ r. r .number) (intern-behind a x xs f))
+
+-- The first i names have their hints.
+pub record Hinting (bs : List (List ℕ)) (ls : List ℕ) (held : ℕ) (hs₀ hs : List ℕ) (i : ℕ) : Type 0 where
+  pub within : i ≤ held
+  pub is : hs ≡ hinted (names-of bs ls) i hs₀
+
+pub hinting-first : {bs : List (List ℕ)} {ls : List ℕ} {held : ℕ} {hs : List ℕ} → Hinting bs ls held hs hs 0
+unfolding hinted
+hinting-first = record { within = omega arith; is = refl }
+
+pub hints-size : (ns : List Name) (n : ℕ) (hs : List ℕ) → length (hinted ns n hs) ≡ length hs
+unfolding hinted
+hints-size ns zero hs = refl
+hints-size ns (suc n) hs = length-set (hinted ns n hs) (bucket-of (getD ns n spare)) n ∙ hints-size ns n hs
+
+module _ {bs : List (List ℕ)} {ls : List ℕ} {held : ℕ} {hs₀ hs : List ℕ} {i : ℕ} (v : Hinting bs ls held hs₀ hs i) where
+  pub hinting-size : length hs ≡ length hs₀
+  hinting-size = ap length (v .is) ∙ hints-size (names-of bs ls) i hs₀
+
+  pub hinting-next : NamesSized bs ls → held ≤ 256 → i < held → {k : ℕ} → k ≡ bucket-of (name-of (getD bs i []) (getD ls i 0))
+      → Hinting bs ls held hs₀ (set hs k i) (i + 1)
+  unfolding hinted
+  hinting-next s few h p =
+      record {
+        within = omega (arith, h);
+        is =
+            ap₂ (λ (l : List ℕ) (n : ℕ). set l n i) (v .is) (p ∙ ap bucket-of (part-at name-of s [] 0 {i = i} (omega (arith, few, h)) refl spare))
+            ∙ ap (λ n. hinted (names-of bs ls) n hs₀) (sym (add-one i));
+      }
+
+  pub hinting-last : held ≤ i → hs ≡ hinted (names-of bs ls) held hs₀
+  hinting-last h = v .is ∙ ap (λ n. hinted (names-of bs ls) n hs₀) (omega (arith, h, v .within))

@@ -1,9 +1,9 @@
 -- Names in lent arrays, and what a look among them says.
-use Prim.Native.Nat.{ℕ}
+use Prim.Native.Nat.{ℕ, zero, suc, _+_, _*_, _%_}
 use mathlib.Core.Path.{_≡_}
 use mathlib.Core.Bool.{true, false}
 use mathlib.Core.List.{List, map}
-use lib.ListN.{length, take}
+use lib.ListN.{length, getD, set, take}
 use Rattle.laws.specs.Texts.{Text}
 use Rattle.lent.specs.Parts.{Sized, zipped}
 use Rattle.model.specs.Registers.{numbered, intern-all}
@@ -15,6 +15,7 @@ use Rattle.registers.specs.declared.RegisterTable.{RegisterTable}
 use Rattle.registers.specs.declared.Resolved.{Resolved}
 use Rattle.registers.specs.View.{TableOk}
 use Rattle.registers.specs.Contracts.{ResolvedTo}
+use Rattle.registers.proofs.NameTable.{spare}
 use Rattle.lookup.specs.declared.Found.{Found}
 use Rattle.lookup.specs.declared.Looked.{Looked}
 
@@ -37,6 +38,23 @@ pub record NamesHeld (bs : List (List ℕ)) (ls : List ℕ) (names : List Name) 
 -- The first of them, as the model has them.
 abbrev pub first-names : List (List ℕ) → List ℕ → ℕ → List Text
 first-names bs ls held = take held (map viewName (names-of bs ls))
+
+-- A hash of five bytes.
+abbrev pub mixed : ℕ → ℕ → ℕ → ℕ → ℕ → ℕ
+mixed a b c d e = (a + b * 11 + c * 121 + (d * 1331 + e * 14641)) % 1024
+
+-- Of those of a row from a place on.
+abbrev pub mixed-from : List ℕ → ℕ → ℕ
+mixed-from b i = mixed (getD b i 0) (getD b (i + 1) 0) (getD b (i + 2) 0) (getD b (i + 3) 0) (getD b (i + 4) 0)
+
+-- The place of a name's hint among 1,024.
+abbrev pub bucket-of : Name → ℕ
+bucket-of x = (mixed-from (x .bytes) 0 + mixed-from (x .bytes) 5 * 3 + mixed-from (x .bytes) 10 * 7) % 1024
+
+-- Hints with the first n of a list of names: in the bucket of each stands the number of the last that has it.
+unfoldable pub hinted : List Name → ℕ → List ℕ → List ℕ
+hinted ns zero hs = hs
+hinted ns (suc n) hs = set (hinted ns n hs) (bucket-of (getD ns n spare)) n
 
 -- The numbers of the first n of a list, where all are among the names.
 pub record FoundIn (ns : List Text) (n : ℕ) (names : List Text) (r : Found) : Type 0 where

@@ -15,11 +15,11 @@ use Rattle.lookup.proofs.find_all_in.Statement.{statement}
 use Rattle.lookup.proofs.find_all_in.Tie as tie
 
 abbrev Inv-loop : tie.InvT-loop
-Inv-loop bs ls held n list numbers₀ end i₀ numbers i =
+Inv-loop bs ls hs held n list numbers₀ end i₀ numbers i =
     Numbering (first-names bs ls held) (take n (map viewName list)) end (first-names bs ls held) numbers i
 
 abbrev μ-loop : tie.MeasureT-loop
-μ-loop bs ls held n list numbers₀ end i₀ numbers i = end - i
+μ-loop bs ls hs held n list numbers₀ end i₀ numbers i = end - i
 
 loop-holds : tie.Need-loop-holds Inv-loop μ-loop
 loop-holds c = numbering-first refl
@@ -30,8 +30,8 @@ mul-name c = search needs
 array-copy-out-name : tie.Need-array-copy-out-name Inv-loop μ-loop
 array-copy-out-name c = search needs
 
-find-in-requires : tie.Need-find-in-requires Inv-loop μ-loop
-find-in-requires c κs = search needs
+find-by-requires : tie.Need-find-by-requires Inv-loop μ-loop
+find-by-requires c κs = search needs
 
 returns : tie.Need-returns Inv-loop μ-loop
 returns c = let v = c .before .before .before .before .loop .inv in record { is = λ q. absurd (subst T (sym q) tt); size = v .size }
@@ -52,9 +52,9 @@ loop-again : tie.Need-loop-again Inv-loop μ-loop
 loop-again c =
     let f = c .before in
     let d = f .before .before in
-    let s = d .before .before .before in
-    numbering-next (d .before .loop .inv) (view-next viewName (s .args .t4) spare (omega arith) (d .loop-test .taken)) (omega arith)
-    (found-among (s .pre .0) (s .pre .1 .0) _ (f .find-in .ensures) (c .if1 .left)) refl
+    let s = d .before .before .before .before in
+    numbering-next (d .before .loop .inv) (view-next viewName (s .args .t5) spare (omega arith) (d .loop-test .taken)) (omega arith)
+    (found-among (s .pre .0) (s .pre .1 .1 .0) _ (f .find-by .ensures) (c .if1 .left)) refl
 
 returns-2 : tie.Need-returns-2 Inv-loop μ-loop
 returns-2 c = let v = c .before .loop .inv in record { is = λ q. numbering-last v (c .loop-test .left) (slice-end _ (c .loop-test .left)); size = v .size }
@@ -68,7 +68,7 @@ find-all-in-spec =
     loop-holds
     mul-name
     array-copy-out-name
-    find-in-requires
+    find-by-requires
     returns
     cast-numbers
     array-write-numbers

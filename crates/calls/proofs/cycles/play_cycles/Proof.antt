@@ -16,6 +16,8 @@ use Rattle.flight.specs.declared.pool.TextPool.{TextPool}
 use Rattle.timeline.specs.declared.RowTexts.{RowTexts}
 use Rattle.timeline.specs.declared.Window.{Window}
 use Rattle.timeline.specs.View.{WindowOk}
+use Rattle.runs.proofs.Names.{Distinct}
+use Rattle.lookup.proofs.Looking.{table-names, hints-size}
 use Rattle.slots.specs.View.{units-of}
 use Rattle.tracks.specs.View.{tracks-of}
 use Rattle.board.specs.declared.Sequencer.{Sequencer}
@@ -74,35 +76,35 @@ whole b us ss n w ts fs ds m names known held xs rs =
     }
 
 abbrev Inv-loop : tie.InvT-loop
-Inv-loop list at cells₀ out₀ b n us₀ ss₀ ts₀ fs₀ board₀ window₀ decoded₀ machine names bs ls known₀ held₀ texts₀ rows₀ next₀ end₀ more₀ cells out us ss ts fs board window decoded known held texts rows next end more =
+Inv-loop list at cells₀ out₀ b n us₀ ss₀ ts₀ fs₀ board₀ window₀ decoded₀ machine names bs ls known₀ held₀ hs texts₀ rows₀ next₀ end₀ more₀ cells out us ss ts fs board window decoded known held texts rows next end more =
     Cycling list at b (viewEngine (whole board₀ us₀ ss₀ n window₀ ts₀ fs₀ decoded₀ machine names known₀ held₀ texts₀ rows₀)) cells₀ out₀
     (whole board us ss n window ts fs decoded machine names known held texts rows) next end cells out
     × Lines us ss ts fs bs ls names
 
 abbrev μ-loop : tie.MeasureT-loop
-μ-loop list at cells₀ out₀ b n us₀ ss₀ ts₀ fs₀ board₀ window₀ decoded₀ machine names bs ls known₀ held₀ texts₀ rows₀ next₀ end₀ more₀ cells out us ss ts fs board window decoded known held texts rows next end more =
+μ-loop list at cells₀ out₀ b n us₀ ss₀ ts₀ fs₀ board₀ window₀ decoded₀ machine names bs ls known₀ held₀ hs texts₀ rows₀ next₀ end₀ more₀ cells out us ss ts fs board window decoded known held texts rows next end more =
     turns list next more
 
 -- ── Before the loop ─────────────────────────────────────────────────────────
 
 abbrev start : tie.After-rows Inv-loop μ-loop → tie.Start Inv-loop μ-loop
-start c = c .before .before .before .before .before .before .before .before .before .before .before .before .before .before .before .before .before .before .before .before .before .before .before .before .before .before .before .before .before
+start c = c .before .before .before .before .before .before .before .before .before .before .before .before .before .before .before .before .before .before .before .before .before .before .before .before .before .before .before .before .before .before .before .before .before .before
 
 -- The engine that is laid out.
 abbrev first : tie.After-rows Inv-loop μ-loop → ScoreboardPipeline
 first c =
     let e = start c .args .engine in
     with-both
-    (board-of (c .before .before .before .before .before .before .before .before .before .before .before .before .of .result) (units-of (c .before .before .before .before .before .before .before .before .before .before .before .before .before .before .before .before .before .before .before .before .before .spread .last .1 .0) (c .before .before .before .before .before .before .before .before .before .before .before .before .before .before .before .before .before .before .before .before .before .spread .last .1 .1 .0) (e .board .units .len)))
-    (tracks-of (c .before .before .before .before .before .before .before .before .before .before .before .before .before .before .before .spread2 .last .1 .0) (c .before .before .before .before .before .before .before .before .before .before .before .before .before .before .before .spread2 .last .1 .1 .0)) e
+    (board-of (c .before .before .before .before .before .before .before .before .before .before .before .before .before .before .before .before .before .of .result) (units-of (c .before .before .before .before .before .before .before .before .before .before .before .before .before .before .before .before .before .before .before .before .before .before .before .before .before .before .spread .last .1 .0) (c .before .before .before .before .before .before .before .before .before .before .before .before .before .before .before .before .before .before .before .before .before .before .before .before .before .before .spread .last .1 .1 .0) (e .board .units .len)))
+    (tracks-of (c .before .before .before .before .before .before .before .before .before .before .before .before .before .before .before .before .before .before .before .before .spread2 .last .1 .0) (c .before .before .before .before .before .before .before .before .before .before .before .before .before .before .before .before .before .before .before .before .spread2 .last .1 .1 .0)) e
 
 first-is : (c : tie.After-rows Inv-loop μ-loop) → first c ≡ start c .args .engine
-first-is c = both-is (start c .args .engine) (board-back (c .before .before .before .before .before .before .before .before .before .before .before .before .of .ensures) (c .before .before .before .before .before .before .before .before .before .before .before .before .before .before .before .before .before .before .before .before .before .spread .ensures)) (c .before .before .before .before .before .before .before .before .before .before .before .before .before .before .before .spread2 .ensures .is)
+first-is c = both-is (start c .args .engine) (board-back (c .before .before .before .before .before .before .before .before .before .before .before .before .before .before .before .before .before .of .ensures) (c .before .before .before .before .before .before .before .before .before .before .before .before .before .before .before .before .before .before .before .before .before .before .before .before .before .before .spread .ensures)) (c .before .before .before .before .before .before .before .before .before .before .before .before .before .before .before .before .before .before .before .before .spread2 .ensures .is)
 
 loop-holds : tie.Need-loop-holds Inv-loop μ-loop
 loop-holds c = (
   cycling-first (subst Valid (sym (first-is c)) (start c .pre .0)) (start c .pre .1),
-  record { units = c .before .before .before .before .before .before .before .before .before .before .before .before .before .before .before .before .before .before .before .before .before .spread .ensures .size; tracks = c .before .before .before .before .before .before .before .before .before .before .before .before .before .before .before .spread2 .ensures .size; names = c .before .before .before .before .spread3 .ensures },
+  record { units = c .before .before .before .before .before .before .before .before .before .before .before .before .before .before .before .before .before .before .before .before .before .before .before .before .before .before .spread .ensures .size; tracks = c .before .before .before .before .before .before .before .before .before .before .before .before .before .before .before .before .before .before .before .before .spread2 .ensures .size; names = c .before .before .before .before .before .before .before .before .before .spread3 .ensures },
 )
 
 -- ── A turn ──────────────────────────────────────────────────────────────────
@@ -153,36 +155,49 @@ add-op-at c = omega (arith, inside-fetch c, origin (c .before .before .before .b
 op-at-requires : tie.Need-op-at-requires Inv-loop μ-loop
 op-at-requires c κs = omega (arith, inside-fetch c)
 
+-- As many hints as there are buckets.
+hints-there : (c : tie.After-rows Inv-loop μ-loop) → length (c .before .before .before .hint .last .1 .1 .1 .0) ≡ 1024
+hints-there c = ap length (c .before .before .before .hint .ensures) ∙ hints-size _ (start c .args .engine .table .held) _
+
 look-requires : tie.Need-look-requires Inv-loop μ-loop
-look-requires c κs = let i = c .before .before .before .before .before .before .before .before .before .loop .inv in (i .1 .names .size, i .0 .played .valid .parts .table .held)
+look-requires c κs =
+    let a = c .before .before .before .before .before .before .before .before .before .before in
+    let i = a .loop .inv in
+    let ok = i .0 .played .valid .parts .table in (
+      i .1 .names .size,
+      (
+        hints-there (a .before),
+        (ok .held, subst Distinct (sym (table-names _ _ (engine a .table) (i .1 .names .is) refl)) (ok .distinct)),
+      ),
+    )
 
 fill-requires : tie.Need-fill-requires Inv-loop μ-loop
 fill-requires c κs =
-    let t = c .before .before .before .before .before .before .before .before .before in
-    omega (arith, c .before .before .before .before .before .before .before .before .answer-size .ensures, laying-sizes (t .before .before .before .loop .inv .0 .played .laid) (there t))
+    let t = c .before .before .before .before .before .before .before .before .before .before in
+    omega (arith, c .before .before .before .before .before .before .before .before .before .answer-size .ensures, laying-sizes (t .before .before .before .loop .inv .0 .played .laid) (there t))
 
 add-end : tie.Need-add-end Inv-loop μ-loop
 add-end c =
-    let a = c .before .before .before .before .before .before .before .before .before .before .before in
+    let a = c .before .before .before .before .before .before .before .before .before .before .before .before in
     let t = a .before in
     let y = t .before .before .before .loop .inv .0 .played .laid in
     omega (arith, a .answer-size .ensures, laying-sizes y (there t), y .same, origin (t .before .before .before) .good .1 .1 .1 .1 .0 .0)
 
 add-next : tie.Need-add-next Inv-loop μ-loop
 unfolding size-at byte-at
-add-next c = omega (arith, c .size-of .ensures, formed-is _ _ (is-formed (c .before .before .before .before .before .before .before .before .before .before .before .before .before)) .inside, origin (c .before .before .before .before .before .before .before .before .before .before .before .before .before .before .before .before) .good .1 .0 .0)
+add-next c = omega (arith, c .size-of .ensures, formed-is _ _ (is-formed (c .before .before .before .before .before .before .before .before .before .before .before .before .before .before)) .inside, origin (c .before .before .before .before .before .before .before .before .before .before .before .before .before .before .before .before .before) .good .1 .0 .0)
 
 abbrev head : tie.After-size-of Inv-loop μ-loop → tie.At-loop Inv-loop μ-loop
-head z = z .before .before .before .before .before .before .before .before .before .before .before .before .before .before .before .before
+head z = z .before .before .before .before .before .before .before .before .before .before .before .before .before .before .before .before .before
 
 -- The names are held: what the turn of a fetch has.
-fetching : (z : tie.After-size-of Inv-loop μ-loop) → Turned (head z) (z .before .before .before .fill .last .0) (z .before .before .before .before .before .before .before .before .before .before .before .before .answer-size .result) (z .size-of .result)
+fetching : (z : tie.After-size-of Inv-loop μ-loop) → Turned (head z) (z .before .before .before .fill .last .0) (z .before .before .before .before .before .before .before .before .before .before .before .before .before .answer-size .result) (z .size-of .result)
 unfolding size-at byte-at
 fetching z =
     record {
       cycling = head z .loop .inv .0;
-      there = there (z .before .before .before .before .before .before .before .before .before .before .before .before .before);
-      room = z .before .before .before .before .before .before .before .before .before .before .before .before .answer-size .ensures;
+      there = there (z .before .before .before .before .before .before .before .before .before .before .before .before .before .before);
+      room = z .before .before .before .before .before .before .before .before .before .before .before .before .before .answer-size .ensures;
       zeros = z .before .before .before .fill .ensures;
       bytes = z .size-of .ensures;
     }
@@ -190,13 +205,13 @@ fetching z =
 fetch-falls : (z : tie.After-size-of Inv-loop μ-loop)
     → turns (origin (head z) .args .list .now) (head z .loop .next + z .size-of .result) (z .before .before .before .before .before .before .look .result .all)
     < turns (origin (head z) .args .list .now) (head z .loop .next) (head z .loop .more)
-fetch-falls z = turns-next (z .before .before .before .before .before .before .before .before .before .before .before .before .before .before .before .loop-test .taken) _ _ (is-formed (z .before .before .before .before .before .before .before .before .before .before .before .before .before)) (fetching z .bytes) (z .before .before .before .before .before .before .look .result .all)
+fetch-falls z = turns-next (z .before .before .before .before .before .before .before .before .before .before .before .before .before .before .before .before .loop-test .taken) _ _ (is-formed (z .before .before .before .before .before .before .before .before .before .before .before .before .before .before)) (fetching z .bytes) (z .before .before .before .before .before .before .look .result .all)
 
 add-number-at : tie.Need-add-number-at Inv-loop μ-loop
-add-number-at c = omega (arith, inside-fetch (c .before .before .before .before .before .before .before .before .before .before), origin (c .before .before .before .before .before .before .before .before .before .before .before .before .before .before .before .before) .good .1 .0 .0)
+add-number-at c = omega (arith, inside-fetch (c .before .before .before .before .before .before .before .before .before .before .before), origin (c .before .before .before .before .before .before .before .before .before .before .before .before .before .before .before .before .before) .good .1 .0 .0)
 
 number-at-requires : tie.Need-number-at-requires Inv-loop μ-loop
-number-at-requires c κs = omega (arith, inside-fetch (c .before .before .before .before .before .before .before .before .before .before))
+number-at-requires c κs = omega (arith, inside-fetch (c .before .before .before .before .before .before .before .before .before .before .before))
 
 slice-relend-prefix-taken : tie.Need-slice-relend-prefix-taken Inv-loop μ-loop
 unfolding lent-of
@@ -204,7 +219,7 @@ slice-relend-prefix-taken c =
     let z = c .before .before .before .before .before .before .before .before in
     omega (
       arith,
-      lent-by (origin (head z) .args .list .now) (head z .loop .next) 5 (is-fetch (z .before .before .before .before .before .before .before .before .before .before)) (omega arith),
+      lent-by (origin (head z) .args .list .now) (head z .loop .next) 5 (is-fetch (z .before .before .before .before .before .before .before .before .before .before .before)) (omega arith),
       c .before .before .before .before .before .before .before .number-at .ensures,
       turn-playable (fetching z) .lent,
     )
@@ -221,7 +236,7 @@ gives c =
     let e = engine (head (looked c)) in
     let x = looked c .before .before .before .before .before .before .look .result in
     given (e .board) (e .window) (e .tracks) (x .sources) (x .destinations) (e .machine .«instruction_bytes») (c .before .latency .result)
-    (looked c .before .before .before .before .before .before .before .before .before .op-at .result)
+    (looked c .before .before .before .before .before .before .before .before .before .before .op-at .result)
 
 holds : (c : tie.After-taken-arg Inv-loop μ-loop) → Holds (gives c) (engine (head (looked c))) (engine (head (looked c)) .table)
 holds c =
@@ -240,14 +255,14 @@ fetched : (d : tie.After-taken Inv-loop μ-loop) {r : Next}
     → let z = looked (d .before) in
     let m = head z .loop .cells in
     let n = d .before .before .before .before .before .before .before .before .before .number-at .result in
-    Does (engine (head z)) (fetch (viewOp (z .before .before .before .before .before .before .before .before .before .op-at .result)) (length (take n m))) r
+    Does (engine (head z)) (fetch (viewOp (z .before .before .before .before .before .before .before .before .before .before .op-at .result)) (length (take n m))) r
     → Done (origin (head z) .args .list .now) (head z .loop .next) (engine (head z)) m r
     (d .taken .last .1 .1 .1 .1 .1 .1 .1 .1 .1 .1 .1 .1 .1 .1 .0 ++ drop n m)
 unfolding lent-of
 fetched d y =
     let z = looked (d .before) in
     let most = slice-relend-prefix-taken (d .before .before) in
-    lent-at _ _ (is-fetch (z .before .before .before .before .before .before .before .before .before .before)) (ap₂ fetch (z .before .before .before .before .before .before .before .before .before .op-at .ensures) (length-take-le _ _ most ∙ d .before .before .before .before .before .before .before .before .before .number-at .ensures)) (head z .loop .cells) most refl
+    lent-at _ _ (is-fetch (z .before .before .before .before .before .before .before .before .before .before .before)) (ap₂ fetch (z .before .before .before .before .before .before .before .before .before .before .op-at .ensures) (length-take-le _ _ most ∙ d .before .before .before .before .before .before .before .before .before .number-at .ensures)) (head z .loop .cells) most refl
     (y, d .taken .ensures .1 .0 (engine (head z)) (engine (head z) .table) (holds (d .before)))
 
 put-answer-requires : tie.Need-put-answer-requires Inv-loop μ-loop
@@ -296,8 +311,8 @@ opened-requires c κs = let t = c .before .before .before .before in (window-ok 
 fetch-lines : (d : tie.After-taken Inv-loop μ-loop)
     → let a = head (looked (d .before)) in
     let k = origin a .args .engine in
-    Lines (a .loop .us) (a .loop .ss) (d .taken .last .1 .1 .1 .1 .0) (d .taken .last .1 .1 .1 .1 .1 .0) (a .before .before .before .before .before .spread3 .last .1 .0)
-    (a .before .before .before .before .before .spread3 .last .1 .1 .0) (k .table .names)
+    Lines (a .loop .us) (a .loop .ss) (d .taken .last .1 .1 .1 .1 .0) (d .taken .last .1 .1 .1 .1 .1 .0) (a .before .before .before .before .before .before .before .before .before .before .spread3 .last .1 .0)
+    (a .before .before .before .before .before .before .before .before .before .before .spread3 .last .1 .1 .0) (k .table .names)
 fetch-lines d =
     let i = head (looked (d .before)) .loop .inv .1 in
     record { units = i .units; tracks = d .taken .ensures .1 .1; names = i .names }
@@ -332,10 +347,10 @@ loop-again-2 c =
 
 -- A name is not held: nothing is played.
 loop-less-3 : tie.Need-loop-less-3 Inv-loop μ-loop
-loop-less-3 c = turns-stop (c .before .before .before .before .before .before .before .before .before .before .loop-test .taken) (origin (c .before .before .before .before .before .before .before .before .before .before .before) .args .list .now) (c .before .before .before .before .before .before .before .before .before .before .before .loop .next) (c .if3 .left)
+loop-less-3 c = turns-stop (c .before .before .before .before .before .before .before .before .before .before .before .loop-test .taken) (origin (c .before .before .before .before .before .before .before .before .before .before .before .before) .args .list .now) (c .before .before .before .before .before .before .before .before .before .before .before .before .loop .next) (c .if3 .left)
 
 loop-again-3 : tie.Need-loop-again-3 Inv-loop μ-loop
-loop-again-3 c = c .before .before .before .before .before .before .before .before .before .before .before .loop .inv
+loop-again-3 c = c .before .before .before .before .before .before .before .before .before .before .before .before .loop .inv
 
 -- ── The other calls ─────────────────────────────────────────────────────────
 
@@ -565,6 +580,10 @@ play-cycles-spec =
     (λ c. refl)
     (λ c. refl)
     (λ c κs. search needs)
+    (λ c. sym (c .before .before .before .spread3 .ensures .size .rows))
+    (λ c. sym (c .before .before .before .before .spread3 .ensures .size .numbers))
+    (λ c. refl)
+    (λ c κs. (c .before .before .before .before .before .spread3 .ensures .size, (c .before .before .before .before .before .before .before .before .before .before .before .before .before .before .before .before .before .before .before .before .before .before .before .before .before .before .before .before .before .before .pre .0 .parts .table .held, refl)))
     loop-holds
     (λ c κs. tt)
     answer-size-requires
@@ -573,6 +592,7 @@ play-cycles-spec =
     op-at-requires
     (λ c. sym (c .before .before .before .before .before .before .before .before .loop .inv .1 .names .size .rows))
     (λ c. sym (c .before .before .before .before .before .before .before .before .before .loop .inv .1 .names .size .numbers))
+    (λ c. sym (hints-there (c .before .before .before .before .before .before .before .before .before .before .before)))
     look-requires
     fill-requires
     add-end
@@ -580,10 +600,10 @@ play-cycles-spec =
     add-next
     add-number-at
     number-at-requires
-    (λ c. sym (c .before .before .before .before .before .before .before .before .before .before .before .before .before .before .before .before .before .before .before .before .loop .inv .1 .units .rows))
-    (λ c. sym (c .before .before .before .before .before .before .before .before .before .before .before .before .before .before .before .before .before .before .before .before .before .loop .inv .1 .units .numbers))
-    (λ c. sym (c .before .before .before .before .before .before .before .before .before .before .before .before .before .before .before .before .before .before .before .before .before .before .loop .inv .1 .tracks .rows))
-    (λ c. sym (c .before .before .before .before .before .before .before .before .before .before .before .before .before .before .before .before .before .before .before .before .before .before .before .loop .inv .1 .tracks .numbers))
+    (λ c. sym (c .before .before .before .before .before .before .before .before .before .before .before .before .before .before .before .before .before .before .before .before .before .loop .inv .1 .units .rows))
+    (λ c. sym (c .before .before .before .before .before .before .before .before .before .before .before .before .before .before .before .before .before .before .before .before .before .before .loop .inv .1 .units .numbers))
+    (λ c. sym (c .before .before .before .before .before .before .before .before .before .before .before .before .before .before .before .before .before .before .before .before .before .before .before .loop .inv .1 .tracks .rows))
+    (λ c. sym (c .before .before .before .before .before .before .before .before .before .before .before .before .before .before .before .before .before .before .before .before .before .before .before .before .loop .inv .1 .tracks .numbers))
     (λ c κs. tt)
     slice-relend-prefix-taken
     slice-aggregate-taken-5
