@@ -12,10 +12,10 @@ use Rattle.capability.specs.Numbers.{class-number}
 use Rattle.capability.proofs.Numbered.{classes-numbered}
 use Rattle.timeline.proofs.Memory.{splice-set}
 use Rattle.traces.specs.Texts.{Laid}
-use Rattle.scoreboard.specs.declared.Answer.{Answer}
-use Rattle.scoreboard.specs.declared.Answer.the-variants as a
-use Rattle.scoreboard.proofs.Answer as answer-enum
-use Rattle.scoreboard.specs.View.{viewAnswer}
+use Rattle.engine.specs.declared.Answer.{Answer}
+use Rattle.engine.specs.declared.Answer.the-variants as a
+use Rattle.engine.proofs.Answer as answer-enum
+use Rattle.engine.specs.View.{viewAnswer}
 use Rattle.answers.specs.Bytes.{flag-byte, optional}
 use Rattle.answers.specs.Encode.{encode}
 

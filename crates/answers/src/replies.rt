@@ -3,14 +3,14 @@ use super::parts::put_byte;
 use super::parts::put_flag;
 use super::parts::put_number;
 use super::parts::put_two;
-use scoreboard::Answer;
-use scoreboard::OfferView;
+use engine::Answer;
+use engine::OfferView;
 use traces::texts::Written;
 ghost use mathlib.Core.List.{_∷_};
 ghost use Prim.Native.Nat.{_+_, _≤_};
 ghost use lib.ListN.{length};
 ghost use Rattle.traces.specs.Texts.{Laid};
-ghost use Rattle.scoreboard.specs.View.{viewOffer, viewAnswer};
+ghost use Rattle.engine.specs.View.{viewOffer, viewAnswer};
 ghost use Rattle.answers.specs.Bytes.{number-bytes, offer-bytes};
 ghost use Rattle.answers.specs.Encode.{encode, written-bytes};
 

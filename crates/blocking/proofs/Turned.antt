@@ -14,8 +14,8 @@ use Rattle.model.specs.Registers.{name-of}
 use Rattle.model.specs.Traces.{Trace as Wait, overwrites, memory-order, drains, trace-of, READ, WRITE}
 use Rattle.model.specs.Write.{Blocked as Reason, drain, blocked-kind, blocked-detail, blocked-trace}
 use Rattle.model.specs.State.{stall-all}
-use Rattle.traces.specs.declared.WaitForm.the-variants.{Overwrites, MemoryOrder, Drains}
-use Rattle.traces.specs.Waits.{detail-of}
+use Rattle.timeline.specs.declared.WaitForm.the-variants.{Overwrites, MemoryOrder, Drains}
+use Rattle.timeline.specs.Waits.{detail-of}
 use Rattle.stalls.specs.declared.Trace.{Trace}
 use Rattle.stalls.specs.declared.Log.{Log}
 use Rattle.stalls.specs.View.{Frame, viewTrace, listed, viewLog, logs}

@@ -2,7 +2,7 @@
 use stalls::Log;
 use stalls::Trace;
 use telling::place_of;
-use traces::WaitForm;
+use timeline::WaitForm;
 use writing::Blocked;
 use writing::Tried;
 use writing::Turned;

@@ -1,6 +1,6 @@
 -- Places counted: how often one is taken, and that waits name those that are.
 use Prim.Native.Nat.{ℕ, zero, suc, _+_, _≤_, _<_}
-use mathlib.Core.Path.{_≡_, refl, sym, ap, _∙_}
+use mathlib.Core.Path.{_≡_, refl, sym, subst, ap, ap₂, _∙_}
 use mathlib.Core.Bool.{Bool, true, false, cond, _||_}
 use mathlib.Core.Logic.{_⊎_, inl, inr, ⊎-elim}
 use mathlib.Core.List.{List, [], _∷_, _++_}
@@ -87,6 +87,14 @@ taken-count p b =
 -- None is taken more often than it was.
 pub apart-kept : (b r : Board) → ((p : ℕ) → p < 80 → count (eqb p) (taken-places r) ≤ count (eqb p) (taken-places b)) → Apart b → Apart r
 apart-kept b r h a p k = omega (arith, h p k, a p k)
+
+-- The places taken, by their parts.
+pub same-taken : (b r : Board) → places (r .units) ≡ places (b .units) → queue-places r ≡ queue-places b → r .gone ≡ b .gone → taken-places r ≡ taken-places b
+unfolding taken-places
+same-taken b r e f g = ap₂ (λ (s : List ℕ) t. s ++ t ∷ []) (ap₂ (λ (s t : List ℕ). s ++ t) e f) g
+
+pub same-apart : (b r : Board) → places (r .units) ≡ places (b .units) → queue-places r ≡ queue-places b → r .gone ≡ b .gone → Apart b → Apart r
+same-apart b r e f g a p h = subst (λ (ps : List ℕ). count (eqb p) ps ≤ 1) (sym (same-taken b r e f g)) (a p h)
 
 -- The queue is dropped.
 pub dropped-apart : (b r : Board) → places (r .units) ≡ places (b .units) → queue-places r ≡ [] → r .gone ≡ b .gone → Apart b → Apart r

@@ -13,11 +13,10 @@ use Rattle.slots.specs.View.{Sized}
 use Rattle.tracks.specs.View.{TracksSized}
 use Rattle.lookup.specs.Lookup.{NamesHeld}
 use Rattle.board.specs.declared.Board.{Board}
-use Rattle.scoreboard.specs.declared.ScoreboardPipeline.{ScoreboardPipeline}
-use Rattle.scoreboard.specs.declared.Next.{Next}
-use Rattle.scoreboard.specs.View.{viewEngine, viewAnswer}
-use Rattle.scoreboard.specs.Valid.{Valid}
-use Rattle.scoreboard.specs.Calls.{Does}
+use Rattle.engine.specs.Engine.{Engine, Next}
+use Rattle.engine.specs.View.{viewEngine, viewAnswer}
+use Rattle.engine.specs.Valid.{Valid}
+use Rattle.engine.specs.Calls.{Does}
 use Rattle.decoding.specs.Calls.{size-at, call-at, formed-at}
 use Rattle.decoding.proofs.Script.{formed-is}
 use Rattle.answers.specs.Encode.{encode}
@@ -35,7 +34,7 @@ pub record Lines (us : List (List ℕ)) (ss : List ℕ) (ts : List (List ℕ)) (
   pub names : NamesHeld bs ls xs
 
 -- An engine with this board and these tracks.
-abbrev pub with-both : Board → Tracks → ScoreboardPipeline → ScoreboardPipeline
+abbrev pub with-both : Board → Tracks → Engine → Engine
 with-both b ts e =
     record {
       board = b;
@@ -48,22 +47,22 @@ with-both b ts e =
       rows = e .rows;
     }
 
-pub both-is : (e : ScoreboardPipeline) {b c : Board} {ts us : Tracks} → b ≡ c → ts ≡ us → with-both b ts e ≡ with-both c us e
+pub both-is : (e : Engine) {b c : Board} {ts us : Tracks} → b ≡ c → ts ≡ us → with-both b ts e ≡ with-both c us e
 both-is e p q = ap₂ (λ x y. with-both x y e) p q
 
 -- ── What was played ─────────────────────────────────────────────────────────
 
-pub record Cycling (l : List ℕ) (at₀ b₀ : ℕ) (s₀ : State) (m₀ out₀ : List ℕ) (e : ScoreboardPipeline) (at b : ℕ) (m out : List ℕ) : Type 0 where
+pub record Cycling (l : List ℕ) (at₀ b₀ : ℕ) (s₀ : State) (m₀ out₀ : List ℕ) (e : Engine) (at b : ℕ) (m out : List ℕ) : Type 0 where
   pub played : Played l at₀ b₀ s₀ m₀ out₀ e at b m out
   pub on : at₀ ≤ at
 
-pub cycling-first : {l m out : List ℕ} {at b : ℕ} {e : ScoreboardPipeline} → Valid e → PlayableFrom l at m b out
+pub cycling-first : {l m out : List ℕ} {at b : ℕ} {e : Engine} → Valid e → PlayableFrom l at m b out
     → Cycling l at b (viewEngine e) m out e at b m out
 cycling-first v a = record { played = played-first v a; on = omega arith }
 
 -- Of the engine that was laid out in arrays, and the one that they make up again.
 pub cycling-last
-    : {l m₀ out₀ m out : List ℕ} {at₀ b₀ at b : ℕ} {e₀ d₀ e d : ScoreboardPipeline} → Cycling l at₀ b₀ (viewEngine e₀) m₀ out₀ e at b m out → e₀ ≡ d₀
+    : {l m₀ out₀ m out : List ℕ} {at₀ b₀ at b : ℕ} {e₀ d₀ e d : Engine} → Cycling l at₀ b₀ (viewEngine e₀) m₀ out₀ e at b m out → e₀ ≡ d₀
     → d ≡ e → Played l at₀ b₀ (viewEngine d₀) m₀ out₀ d at b m out × (at₀ ≤ at)
 cycling-last {l} {m₀} {out₀} {m} {out} {at₀} {b₀} {at} {b} {e₀} {d₀} {e} {d} y p q = (
   subst (λ x. Played l at₀ b₀ (viewEngine x) m₀ out₀ d at b m out) p
@@ -74,18 +73,18 @@ cycling-last {l} {m₀} {out₀} {m} {out} {at₀} {b₀} {at} {b} {e₀} {d₀}
 -- ── A turn ──────────────────────────────────────────────────────────────────
 
 -- What a call leaves of the engine, with its answer, and the cell memory.
-abbrev pub Done : List ℕ → ℕ → ScoreboardPipeline → List ℕ → Next → List ℕ → Type 0
+abbrev pub Done : List ℕ → ℕ → Engine → List ℕ → Next → List ℕ → Type 0
 Done l at e m r m' = Does e (call-at l at) r × (m' ≡ cells-after (viewEngine e) (call-at l at) m)
 
 -- The n bytes of the answer are 0, and the call takes k bytes.
-pub record Turn (l : List ℕ) (at₀ b₀ : ℕ) (s₀ : State) (m₀ out₀ : List ℕ) (e : ScoreboardPipeline) (at b : ℕ) (m out filled : List ℕ) (n k : ℕ) : Type 0 where
+pub record Turn (l : List ℕ) (at₀ b₀ : ℕ) (s₀ : State) (m₀ out₀ : List ℕ) (e : Engine) (at b : ℕ) (m out filled : List ℕ) (n k : ℕ) : Type 0 where
   pub cycling : Cycling l at₀ b₀ s₀ m₀ out₀ e at b m out
   pub there : at < length l
   pub room : n ≡ size (call-at l at)
   pub zeros : filled ≡ splice b (replicate n 0) out
   pub bytes : k ≡ size-at l at
 
-module _ {l m₀ out₀ m out filled : List ℕ} {at₀ b₀ at b n k : ℕ} {s₀ : State} {e : ScoreboardPipeline}
+module _ {l m₀ out₀ m out filled : List ℕ} {at₀ b₀ at b n k : ℕ} {s₀ : State} {e : Engine}
     (t : Turn l at₀ b₀ s₀ m₀ out₀ e at b m out filled n k) where
   pub turn-playable : Playable l at m b filled
   turn-playable = played-playable (t .cycling .played) (t .there) (t .room) (t .zeros)

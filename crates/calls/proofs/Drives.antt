@@ -7,11 +7,10 @@ use lib.ListN.{length, take, drop, getD}
 use lib.Seq.{length-take-le}
 use Rattle.model.specs.State.{State}
 use Rattle.model.specs.Calls.{Call, answer, memory-after}
-use Rattle.scoreboard.specs.declared.ScoreboardPipeline.{ScoreboardPipeline}
-use Rattle.scoreboard.specs.declared.Next.{Next}
-use Rattle.scoreboard.specs.View.{viewEngine}
-use Rattle.scoreboard.specs.Calls.{Does}
-use Rattle.scoreboard.proofs.Does.{same-size}
+use Rattle.engine.specs.Engine.{Engine, Next}
+use Rattle.engine.specs.View.{viewEngine}
+use Rattle.engine.specs.Calls.{Does}
+use Rattle.engine.proofs.Does.{same-size}
 use Rattle.decoding.specs.Bytes.{byte-at}
 use Rattle.decoding.specs.Calls.{drives, shows, text-call, call-at}
 use Rattle.calls.specs.Play.{lent-of, lend, cells-after}
@@ -31,11 +30,11 @@ module _ (l : List ℕ) (at : ℕ) {k : ℕ} (e : byte-at l at ≡ k) {d : Call}
   is : d ≡ call-at l at
   is = p ∙ sym (call-is l at e)
 
-  pub done-at : {x : ScoreboardPipeline} {r : Next} → Does x d r → Does x (call-at l at) r
+  pub done-at : {x : Engine} {r : Next} → Does x d r → Does x (call-at l at) r
   done-at {x} {r} h = subst (λ c. Does x c r) is h
 
   -- It is lent none.
-  pub none-at : {x : ScoreboardPipeline} {r : Next} (m : List ℕ) → lent-of d ≡ 0 → Does x d r
+  pub none-at : {x : Engine} {r : Next} (m : List ℕ) → lent-of d ≡ 0 → Does x d r
       → Does x (call-at l at) r × (m ≡ cells-after (viewEngine x) (call-at l at) m)
   none-at {x} m q y = (done-at y, kept (viewEngine x) (call-at l at) m (sym (ap lent-of is) ∙ q))
 
@@ -45,7 +44,7 @@ module _ (l : List ℕ) (at : ℕ) {k : ℕ} (e : byte-at l at ≡ k) {d : Call}
     size = sym (length-take-le n m h) ∙ sym q ∙ ap lent-of is
 
     -- It left `part` of them.
-    pub lent-at : {x : ScoreboardPipeline} {r : Next} {part : List ℕ} → Does x d r × (part ≡ memory-after (viewEngine x) d (take n m))
+    pub lent-at : {x : Engine} {r : Next} {part : List ℕ} → Does x d r × (part ≡ memory-after (viewEngine x) d (take n m))
         → Does x (call-at l at) r × (part ++ drop n m ≡ cells-after (viewEngine x) (call-at l at) m)
     unfolding cells-after lend
     lent-at {x} y =

@@ -38,13 +38,12 @@ use Rattle.model.specs.Calls.{
   after,
   memory-after,
 }
-use Rattle.scoreboard.specs.declared.ScoreboardPipeline.{ScoreboardPipeline}
-use Rattle.scoreboard.specs.declared.Answer.{Answer}
-use Rattle.scoreboard.specs.declared.Next.{Next}
-use Rattle.scoreboard.specs.View.{viewEngine, viewAnswer}
-use Rattle.scoreboard.specs.Valid.{Valid}
-use Rattle.scoreboard.specs.Calls.{Does, Tells}
-use Rattle.scoreboard.proofs.Does.{same-size}
+use Rattle.engine.specs.Engine.{Engine, Next}
+use Rattle.engine.specs.declared.Answer.{Answer}
+use Rattle.engine.specs.View.{viewEngine, viewAnswer}
+use Rattle.engine.specs.Valid.{Valid}
+use Rattle.engine.specs.Calls.{Does, Tells}
+use Rattle.engine.proofs.Does.{same-size}
 use Rattle.checks.specs.Numbered.{numbered}
 use Rattle.decoding.specs.Bytes.{byte-at}
 use Rattle.decoding.specs.Calls.{size-at, text-call, call-at}
@@ -134,12 +133,12 @@ unfolding cells-after lend
 cells-size s c m = length-front m (memory-after s c (take (lent-of c) m)) (lent-of c) (same-size s c (take (lent-of c) m) refl)
 
 -- The engine, the cell memory and the room for answers before and after the call c.
-pub record Step (c : Call) (b : ℕ) (e : ScoreboardPipeline) (m out : List ℕ) (e' : ScoreboardPipeline) (m' out' : List ℕ) : Type 0 where
+pub record Step (c : Call) (b : ℕ) (e : Engine) (m out : List ℕ) (e' : Engine) (m' out' : List ℕ) : Type 0 where
   pub leaves : Leaves e c e'
   pub memory : m' ≡ cells-after (viewEngine e) c m
   pub laid : out' ≡ splice b (encode (answer (viewEngine e) (take (lent-of c) m) c)) out
 
-pub step-shown : {c : Call} {b : ℕ} {e e' : ScoreboardPipeline} {m out m' out' : List ℕ} → shows-only c ≡ true → Valid e → e' ≡ e → m' ≡ m
+pub step-shown : {c : Call} {b : ℕ} {e e' : Engine} {m out m' out' : List ℕ} → shows-only c ≡ true → Valid e → e' ≡ e → m' ≡ m
     → out' ≡ splice b (encode (answer (viewEngine e) (take (lent-of c) m) c)) out → Step c b e m out e' m' out'
 step-shown {c} {e = e} {m = m} h v p q o =
     record {
@@ -158,7 +157,7 @@ number-room n a b out t h = omega (arith, ap (λ x. length (encode x)) t, one (n
     one (some n) = refl
 
 -- A call of the engine, whose answer is laid.
-module _ {c : Call} {e : ScoreboardPipeline} {r : Next} (d : Does e c r) where
+module _ {c : Call} {e : Engine} {r : Next} (d : Does e c r) where
   pub answer-room : (b : ℕ) (out : List ℕ) → b + size c ≤ length out → b + length (encode (viewAnswer (r .answer))) ≤ length out
   answer-room b out h = omega (arith, ap (λ a. length (encode a)) (d .answer []), answer-fits (viewEngine e) [] c)
 
@@ -173,11 +172,11 @@ module _ {c : Call} {e : ScoreboardPipeline} {r : Next} (d : Does e c r) where
 
 -- ── All calls ───────────────────────────────────────────────────────────────
 
-pub played-first : {l m out : List ℕ} {at b : ℕ} {e : ScoreboardPipeline} → Valid e → PlayableFrom l at m b out → Played l at b (viewEngine e) m out e at b m out
+pub played-first : {l m out : List ℕ} {at b : ℕ} {e : Engine} → Valid e → PlayableFrom l at m b out → Played l at b (viewEngine e) m out e at b m out
 played-first v a =
     record { valid = v; lent = a .lent; size = refl; memory = refl; laid = laying-first _ _ _ (a .formed) (a .room) }
 
-module _ {l m₀ out₀ m out : List ℕ} {at₀ b₀ at b : ℕ} {s₀ : State} {e : ScoreboardPipeline} (y : Played l at₀ b₀ s₀ m₀ out₀ e at b m out) where
+module _ {l m₀ out₀ m out : List ℕ} {at₀ b₀ at b : ℕ} {s₀ : State} {e : Engine} (y : Played l at₀ b₀ s₀ m₀ out₀ e at b m out) where
   pub played-cells : length l ≤ at → m ≡ cells-played s₀ m₀ (from l at₀)
   unfolding cells-played
   played-cells h = sym (ap (cells-played (viewEngine e) m) (calls-end l (length l) h)) ∙ y .memory
@@ -199,7 +198,7 @@ module _ {l m₀ out₀ m out : List ℕ} {at₀ b₀ at b : ℕ} {s₀ : State}
           room = laying-filled (y .laid) h n f;
         }
 
-    pub played-next : {k : ℕ} {e' : ScoreboardPipeline} {m' out' : List ℕ} → k ≡ size-at l at → Step (call-at l at) b e m filled e' m' out'
+    pub played-next : {k : ℕ} {e' : Engine} {m' out' : List ℕ} → k ≡ size-at l at → Step (call-at l at) b e m filled e' m' out'
         → Played l at₀ b₀ s₀ m₀ out₀ e' (at + k) (b + n) m' out'
     unfolding blocks block-of cells-played
     played-next {k} {e'} {m'} q z =
@@ -226,7 +225,7 @@ module _ {l m₀ out₀ m out : List ℕ} {at₀ b₀ at b : ℕ} {s₀ : State}
   pub played-rest : PlayableFrom l at m b out
   played-rest = record { formed = y .laid .formed; lent = y .lent; room = y .laid .room }
 
-  pub played-on : {e' : ScoreboardPipeline} {at' b' : ℕ} {m' out' : List ℕ} → Played l at b (viewEngine e) m out e' at' b' m' out'
+  pub played-on : {e' : Engine} {at' b' : ℕ} {m' out' : List ℕ} → Played l at b (viewEngine e) m out e' at' b' m' out'
       → Played l at₀ b₀ s₀ m₀ out₀ e' at' b' m' out'
   played-on z =
       record {
@@ -238,7 +237,7 @@ module _ {l m₀ out₀ m out : List ℕ} {at₀ b₀ at b : ℕ} {s₀ : State}
             record { formed = z .laid .formed; room = z .laid .room; same = z .laid .same ∙ y .laid .same; is = z .laid .is ∙ y .laid .is };
       }
 
-  pub played-same : {e' : ScoreboardPipeline} {at' b' : ℕ} {m' out' : List ℕ} → m' ≡ m → out' ≡ out → e' ≡ e → at' ≡ at → b' ≡ b
+  pub played-same : {e' : Engine} {at' b' : ℕ} {m' out' : List ℕ} → m' ≡ m → out' ≡ out → e' ≡ e → at' ≡ at → b' ≡ b
       → Played l at₀ b₀ s₀ m₀ out₀ e' at' b' m' out'
   played-same {e'} {at'} {b'} {m'} {out'} p q r s t =
       subst (λ x. Played l at₀ b₀ s₀ m₀ out₀ e' at' b' x out') (sym p)

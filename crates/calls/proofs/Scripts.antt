@@ -18,10 +18,11 @@ use Rattle.model.specs.Calls.{make-refusal, memory-made, make-memory, refused, 
 use Rattle.timeline.proofs.Memory.{splice-append, splice-length}
 use Rattle.rows.proofs.Bytes.{write-all-length}
 use Rattle.scoreboard.specs.declared.Next.{Next}
-use Rattle.scoreboard.specs.declared.Answer.{Answer}
-use Rattle.scoreboard.specs.declared.Answer.the-variants.{Refused, Done, Offered, NoOffer, Resolved, NotResolved, Invitation, NoInvitation}
-use Rattle.scoreboard.proofs.Answer as answers
-use Rattle.scoreboard.specs.View.{viewEngine, viewAnswer}
+use Rattle.engine.specs.declared.Answer.{Answer}
+use Rattle.engine.specs.declared.Answer.the-variants.{Refused, Done, Offered, NoOffer, Resolved, NotResolved, Invitation, NoInvitation}
+use Rattle.engine.proofs.Answer as answers
+use Rattle.scoreboard.specs.View.{viewEngine}
+use Rattle.engine.specs.View.{viewAnswer}
 use Rattle.scoreboard.specs.Calls.{Makes}
 use Rattle.decoding.specs.Machine.{shape-at, entry-at, making-lent, machine-formed}
 use Rattle.decoding.specs.Script.{Script, script-of, list-formed, decode}

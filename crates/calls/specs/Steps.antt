@@ -12,9 +12,9 @@ use Rattle.decoding.specs.Bytes.{byte-at}
 use Rattle.decoding.specs.Calls.{call-at, formed-at}
 use Rattle.decoding.specs.Script.{calls-at, all-formed}
 use Rattle.answers.specs.Size.{size}
-use Rattle.scoreboard.specs.declared.ScoreboardPipeline.{ScoreboardPipeline}
-use Rattle.scoreboard.specs.View.{viewEngine}
-use Rattle.scoreboard.specs.Valid.{Valid}
+use Rattle.engine.specs.Engine.{Engine}
+use Rattle.engine.specs.View.{viewEngine}
+use Rattle.engine.specs.Valid.{Valid}
 use Rattle.calls.specs.Play.{lent-of, most-lent, all-sizes, blocks, cells-played}
 
 -- The calls from a place on, and whether they are of their form.
@@ -41,7 +41,7 @@ abbrev pub AllPlayable : (l m out : List ℕ) → Type 0
 AllPlayable l m out = PlayableFrom l 555 m 17 out
 
 -- The engine after a call.
-pub record Leaves (e : ScoreboardPipeline) (c : Call) (r : ScoreboardPipeline) : Type 0 where
+pub record Leaves (e : Engine) (c : Call) (r : Engine) : Type 0 where
   pub engine : viewEngine r ≡ after (viewEngine e) c
   pub valid : Valid r
 
@@ -55,7 +55,7 @@ pub record Laying (l : List ℕ) (b₀ : ℕ) (all rest out₀ out : List ℕ) (
   pub is : splice b rest out ≡ splice b₀ all out₀
 
 -- Of the calls from a place on those before `at` were played, and what they left and the rest make up the whole.
-pub record Played (l : List ℕ) (at₀ b₀ : ℕ) (s₀ : State) (m₀ out₀ : List ℕ) (e : ScoreboardPipeline) (at b : ℕ) (m out : List ℕ) : Type 0 where
+pub record Played (l : List ℕ) (at₀ b₀ : ℕ) (s₀ : State) (m₀ out₀ : List ℕ) (e : Engine) (at b : ℕ) (m out : List ℕ) : Type 0 where
   pub valid : Valid e
   pub lent : most-lent (from l at) ≤ length m
   pub size : length m ≡ length m₀

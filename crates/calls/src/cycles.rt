@@ -1,24 +1,24 @@
 // The calls of a cycle: 0 start, 1 retire, 4 advance and 5 fetch.
 use crate::measures::answer_size;
+use advancing::advanced;
 use answers::replies::put_answer;
 use board::Sequencer;
 use decoding::operation::op_at;
 use decoding::parts::maybe_number_at;
 use decoding::parts::number_at;
 use decoding::records::size_of;
+use engine::done_or;
+use fetching::row_of;
+use fetching::taken;
 use flight::pool::Decoded;
 use flight::pool::Texts;
+use offering::retired;
+use offering::start_answer;
 use registers::RegisterTable;
 use scoreboard::ScoreboardPipeline;
-use scoreboard::advance::advanced;
-use scoreboard::done_or;
-use scoreboard::fetch::row_of;
-use scoreboard::fetch::taken;
-use scoreboard::retired;
-use scoreboard::start_answer;
 ghost use mathlib.Core.Path.{_≡_};
 ghost use Prim.Native.Nat.{_≤_};
-ghost use Rattle.scoreboard.specs.View.{viewEngine};
+ghost use Rattle.scoreboard.specs.View.{parts, viewEngine};
 ghost use Rattle.scoreboard.specs.Valid.{Valid};
 ghost use Rattle.calls.specs.Steps.{PlayableFrom, Played, cycle-at};
 
@@ -59,7 +59,7 @@ pub fn play_cycles(
 ) -> Reached
     requires { ⌜ Valid engine ⌝ }
     requires { ⌜ PlayableFrom (now list) at (now cells) b (now out) ⌝ }
-    ensures played { λ r. ⌜ Played (now (list .entry)) at b (viewEngine engine) (now (cells .entry)) (now (out .entry)) (r .engine) (r .at) (r .b) (now (cells .exit)) (now (out .exit)) ⌝ }
+    ensures played { λ r. ⌜ Played (now (list .entry)) at b (viewEngine engine) (now (cells .entry)) (now (out .entry)) (parts (r .engine)) (r .at) (r .b) (now (cells .exit)) (now (out .exit)) ⌝ }
     ensures on { λ r. ⌜ at ≤ r .at ⌝ }
 {
     let eb = engine.board;

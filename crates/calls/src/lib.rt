@@ -5,9 +5,9 @@ use decoding::machine::shape_at;
 use decoding::parts::number_at;
 use decoding::records::formed;
 use decoding::records::size_of;
+use engine::Answer;
 use measures::answer_size;
 use measures::lent_at;
-use scoreboard::Answer;
 use scoreboard::ScoreboardPipeline;
 
 // How much room a call takes.

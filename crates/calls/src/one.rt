@@ -9,7 +9,7 @@ ghost use Prim.Native.Nat.{_<_, _≤_};
 ghost use lib.ListN.{take};
 ghost use Rattle.model.specs.Timeline.{splice};
 ghost use Rattle.model.specs.Calls.{answer};
-ghost use Rattle.scoreboard.specs.View.{viewEngine};
+ghost use Rattle.scoreboard.specs.View.{parts, viewEngine};
 ghost use Rattle.scoreboard.specs.Valid.{Valid};
 ghost use Rattle.decoding.specs.Bytes.{byte-at};
 ghost use Rattle.decoding.specs.Calls.{call-at};
@@ -29,7 +29,7 @@ pub fn play_driven(
     requires { ⌜ Valid engine ⌝ }
     requires { ⌜ Playable (now list) at (now cells) b (now out) ⌝ }
     requires { ⌜ byte-at (now list) at < 12 ⌝ }
-    ensures engine { λ r. ⌜ Leaves engine (call-at (now (list .entry)) at) r ⌝ }
+    ensures engine { λ r. ⌜ Leaves (parts engine) (call-at (now (list .entry)) at) (parts r) ⌝ }
     ensures memory { λ r. ⌜ now (cells .exit) ≡ cells-after (viewEngine engine) (call-at (now (list .entry)) at) (now (cells .entry)) ⌝ }
     ensures answer { λ r. ⌜ now (out .exit) ≡ splice b (encode (answer (viewEngine engine) (take (lent-of (call-at (now (list .entry)) at)) (now (cells .entry))) (call-at (now (list .entry)) at))) (now (out .entry)) ⌝ }
 {

@@ -1,13 +1,13 @@
 -- The two halves of a cycle: registers stay known, waits name places of units, and a unit that has read its operands tells the wait that it told before.
-use Prim.Native.Nat.{ℕ, _≤_}
-use mathlib.Core.Path.{_≡_, refl, sym, subst, ap, ap₂, _∙_}
+use Prim.Native.Nat.{ℕ}
+use mathlib.Core.Path.{_≡_, refl, sym, ap, _∙_}
 use mathlib.Core.Bool.{Bool, true, false, cond, not, _&&_}
 use mathlib.Core.Option.{Option, none, some}
-use mathlib.Core.List.{List, [], _∷_, _++_, map, map-id}
+use mathlib.Core.List.{List, [], _∷_, map, map-id}
 use lib.Dec.{eqb}
 use lib.ListN.{length}
 use Rattle.laws.specs.Optional.{get-or, omap}
-use Rattle.laws.specs.Lists.{All, nth, is-empty, keep, count}
+use Rattle.laws.specs.Lists.{All, nth, is-empty, keep}
 use Rattle.laws.specs.Texts.{Text}
 use Rattle.laws.proofs.Tests.{and-no-second}
 use Rattle.laws.proofs.Maps.{nth-map, keep-map, map-swap}
@@ -28,8 +28,7 @@ use Rattle.bank.specs.declared.Units.{Units}
 use Rattle.bank.specs.View.{places}
 use Rattle.telling.specs.Telling.{Tells}
 use Rattle.telling.proofs.Tell.{tells-all}
-use Rattle.board.specs.declared.Board.{Board}
-use Rattle.board.specs.Contracts.{queue-places, taken-places, Apart, Names}
+use Rattle.board.specs.Contracts.{Names}
 use Rattle.board.proofs.Knowing.{Knows, knows-map, knows-modify, busy-knows, mark-hazard-knows, tick-knows, begin-knows, read-knows}
 use Rattle.board.proofs.Counting.{More, names-more}
 
@@ -63,13 +62,6 @@ told-names {us} qs h e a =
 -- Nothing is listed.
 pub none-listed : {t : TraceList} → TraceListOk t → listed t ≡ [] → t .len ≡ 0
 none-listed ok e = sym (listed-length ok) ∙ ap length e
-
--- The places are as they were.
-pub same-apart : (b r : Board) → places (r .units) ≡ places (b .units) → queue-places r ≡ queue-places b → r .gone ≡ b .gone → Apart b → Apart r
-unfolding taken-places
-same-apart b r e f g a p h =
-    subst (λ (ps : List ℕ). count (eqb p) ps ≤ 1)
-    (sym (ap₂ (λ (s : List ℕ) t. s ++ t ∷ []) (ap₂ (λ (s t : List ℕ). s ++ t) e f) g)) (a p h)
 
 -- ── A unit that has read its operands ───────────────────────────────────────
 

@@ -30,10 +30,11 @@ use Rattle.model.specs.Calls.{
 }
 use Rattle.refusals.specs.Refusals.{fails, First, Make-refusals as Model-making}
 use Rattle.refusals.proofs.Demand1.{demand-1 as model-demand-1, demand-1-making as model-making, taken-checks, made-checks}
-use Rattle.scoreboard.specs.declared.Answer.{Answer}
-use Rattle.scoreboard.specs.declared.Answer.the-variants as a
+use Rattle.engine.specs.declared.Answer.{Answer}
+use Rattle.engine.specs.declared.Answer.the-variants as a
 use Rattle.scoreboard.specs.declared.Next.{Next}
-use Rattle.scoreboard.specs.View.{viewEngine, viewAnswer}
+use Rattle.scoreboard.specs.View.{pipeline, viewEngine}
+use Rattle.engine.specs.View.{viewAnswer}
 use Rattle.scoreboard.specs.Calls.{Makes, Does}
 use Rattle.demands.specs.Demand1.{Refusals, Demand-1, Make-refusals, Demand-1-making}
 
@@ -70,7 +71,7 @@ demand-1 e c r m n d w =
     let says : (k : ℕ) → r .answer ≡ a.Refused k → answer s m c ≡ refused k = λ k q. sym (d .answer m) ∙ shows-refused q in
     record {
       refused-first = λ k. (λ q. t .refused-first k .0 (says k q), λ x. is-refused (r .answer) k (d .answer m ∙ t .refused-first k .1 x));
-      untouched = λ k q. (d .refused k (refused-by s m c k (says k q)), w ∙ t .untouched k (says k q) .1);
+      untouched = λ k q. (ap pipeline (d .refused k (refused-by s m c k (says k q))), w ∙ t .untouched k (says k q) .1);
       taken = λ x. let y = t .taken x in (d .answer m ∙ y .0, d .engine ∙ y .1, w ∙ y .2);
       never-refused = λ k x q. t .never-refused k x (says k q);
     }

@@ -7,8 +7,8 @@ use Rattle.model.specs.Calls.{done, refused}
 use Rattle.config.specs.Checks.{nothing-declared}
 use Rattle.scoreboard.specs.declared.ScoreboardPipeline.{ScoreboardPipeline}
 use Rattle.scoreboard.specs.declared.Next.{Next}
-use Rattle.scoreboard.specs.declared.Answer.the-variants.{Done}
-use Rattle.scoreboard.specs.View.{viewAnswer}
+use Rattle.engine.specs.declared.Answer.the-variants.{Done}
+use Rattle.engine.specs.View.{viewAnswer}
 use Rattle.scoreboard.specs.Valid.{Valid}
 use Rattle.scoreboard.specs.Calls.{Makes}
 use Rattle.demands.specs.Reached.{Reached, made, called, Reaches}

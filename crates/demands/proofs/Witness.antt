@@ -32,7 +32,7 @@ use Rattle.flight.specs.declared.Operands.{Operands}
 use Rattle.flight.specs.View.{flights, read, written, OperandsOk, QueuedOk}
 use Rattle.flight.specs.Pool.{no-decoded, no-texts, no-bytes, no-name, TextsOk}
 use Rattle.timeline.specs.View.{no-text, first-track, no-rows, viewRows, from, TrackOk, RowTextOk}
-use Rattle.traces.specs.declared.WaitForm.the-variants.{Drains}
+use Rattle.timeline.specs.declared.WaitForm.the-variants.{Drains}
 use Rattle.units.specs.declared.Unit.{Unit as Slot}
 use Rattle.units.specs.View.{viewUnit, UnitOk}
 use Rattle.stalls.specs.View.{logs, listed}
@@ -40,10 +40,11 @@ use Rattle.bank.specs.View.{banks, slots}
 use Rattle.board.specs.declared.Board.{Board}
 use Rattle.board.specs.View.{boards, BoardOk}
 use Rattle.board.specs.Contracts.{no-front, placing}
-use Rattle.scoreboard.proofs.Dropping.{empty-looks}
+use Rattle.engine.proofs.Dropping.{empty-looks}
 use Rattle.scoreboard.proofs.Fresh.{empty-apart}
 use Rattle.scoreboard.specs.declared.ScoreboardPipeline.{ScoreboardPipeline}
-use Rattle.scoreboard.specs.View.{shown, viewEngine}
+use Rattle.engine.specs.View.{shown}
+use Rattle.scoreboard.specs.View.{viewEngine}
 use Rattle.scoreboard.specs.Valid.{Parts, Valid}
 
 -- ── Its parts ───────────────────────────────────────────────────────────────

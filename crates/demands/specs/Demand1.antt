@@ -33,8 +33,9 @@ use Rattle.traces.specs.declared.texts.Written.{Written}
 use Rattle.traces.specs.Texts.{written, text-answer}
 use Rattle.scoreboard.specs.declared.ScoreboardPipeline.{ScoreboardPipeline}
 use Rattle.scoreboard.specs.declared.Next.{Next}
-use Rattle.scoreboard.specs.declared.Answer.the-variants.{Refused, Done}
-use Rattle.scoreboard.specs.View.{viewEngine, viewAnswer}
+use Rattle.engine.specs.declared.Answer.the-variants.{Refused, Done}
+use Rattle.scoreboard.specs.View.{viewEngine}
+use Rattle.engine.specs.View.{viewAnswer}
 use Rattle.scoreboard.specs.Calls.{Makes, Does}
 
 pub record Refusals (e : ScoreboardPipeline) (c : Call) (r : Next) (m n : List ℕ) : Type 0 where

@@ -37,17 +37,16 @@ use Rattle.invariant.proofs.Invariant.{invariant-kept}
 use Rattle.board.specs.declared.Board.{Board}
 use Rattle.board.specs.View.{viewBoard}
 use Rattle.board.specs.Contracts.{Starts as Opens}
-use Rattle.scoreboard.specs.declared.ScoreboardPipeline.{ScoreboardPipeline}
-use Rattle.scoreboard.specs.declared.Next.{Next}
-use Rattle.scoreboard.specs.declared.Answer.{Answer}
-use Rattle.scoreboard.specs.declared.Answer.the-variants.{Refused, Done}
-use Rattle.scoreboard.specs.View.{frame-of, viewEngine, viewAnswer}
-use Rattle.scoreboard.specs.Valid.{Valid}
-use Rattle.scoreboard.specs.Calls.{Does, Tells, with-board}
-use Rattle.scoreboard.proofs.Does.{same-size}
-use Rattle.scoreboard.proofs.Answers.{no-index, an-index}
-use Rattle.scoreboard.proofs.Boards.{started-parts, no-offer-outside}
-use Rattle.scoreboard.proofs.Loops.{does-no-start}
+use Rattle.engine.specs.Engine.{Engine, Next, with-board}
+use Rattle.engine.specs.declared.Answer.{Answer}
+use Rattle.engine.specs.declared.Answer.the-variants.{Refused, Done}
+use Rattle.engine.specs.View.{frame-of, viewEngine, viewAnswer}
+use Rattle.engine.specs.Valid.{Valid}
+use Rattle.engine.specs.Calls.{Does, Tells}
+use Rattle.engine.proofs.Does.{same-size}
+use Rattle.offering.proofs.Answers.{no-index, an-index}
+use Rattle.engine.proofs.Boards.{started-parts, no-offer-outside}
+use Rattle.offering.proofs.Results.{does-no-start}
 use Rattle.driving.specs.Runs.{Starts, Cycles}
 
 -- ── The lent memory ─────────────────────────────────────────────────────────
@@ -62,15 +61,15 @@ memory-same s c m e = go (refusal s c)
     go (some k) = refl
 
 -- What a call leaves, whatever it answers.
-pub record Comes (e : ScoreboardPipeline) (c : Call) (r : ScoreboardPipeline) : Type 0 where
+pub record Comes (e : Engine) (c : Call) (r : Engine) : Type 0 where
   pub is : viewEngine r ≡ after (viewEngine e) c
   pub valid : Valid r
 
-pub comes : {e : ScoreboardPipeline} {c : Call} {k : Next} → Does e c k → Comes e c (k .engine)
+pub comes : {e : Engine} {c : Call} {k : Next} → Does e c k → Comes e c (k .engine)
 comes d = record { is = d .engine; valid = d .valid }
 
 -- A call that was made, with the memory lent.
-pub played : {e r : ScoreboardPipeline} {c : Call} (m : List ℕ) {n : List ℕ} → Comes e c r → n ≡ memory-after (viewEngine e) c m
+pub played : {e r : Engine} {c : Call} (m : List ℕ) {n : List ℕ} → Comes e c r → n ≡ memory-after (viewEngine e) c m
     → lent-of (viewEngine r) n ≡ play c (lent-of (viewEngine e) m)
 unfolding play
 played m d w = ap₂ (λ s n. lent-of s n) (d .is) w
@@ -89,7 +88,7 @@ tells n = go (eqb n 0)
 
 -- ── The start ───────────────────────────────────────────────────────────────
 
-module _ {e : ScoreboardPipeline} (v : Valid e) where
+module _ {e : Engine} (v : Valid e) where
   pub begins-not : e .board .front .«in_cycle» ≡ true → Comes e start e
   begins-not h = comes (does-no-start v h (tells 4))
 
@@ -110,7 +109,7 @@ module _ {e : ScoreboardPipeline} (v : Valid e) where
 
 -- ── The offer ───────────────────────────────────────────────────────────────
 
-module _ (e : ScoreboardPipeline) where
+module _ (e : Engine) where
   an-offer : e .board .offer .writing < 64 → is-some (offered-op (viewEngine e)) ≡ true
   unfolding offered-op viewEngine viewBoard
   an-offer h = ap (λ (o : Option ℕ). is-some (omap (λ (i : ℕ). unit-at (viewEngine e .units) i .op) o)) (an-index (e .board .offer .writing) h)
@@ -119,7 +118,7 @@ module _ (e : ScoreboardPipeline) where
   unfolding offered-op viewEngine viewBoard
   no-offer h = ap (λ (o : Option ℕ). is-some (omap (λ (i : ℕ). unit-at (viewEngine e .units) i .op) o)) (no-index (e .board .offer .writing) h)
 
-module _ {e r : ScoreboardPipeline} (d : Comes e start r) where
+module _ {e r : Engine} (d : Comes e start r) where
   begun : (m : List ℕ) → lent-of (viewEngine r) m ≡ play start (lent-of (viewEngine e) m)
   unfolding sets
   begun m = played m d (sym (memory-same (viewEngine e) start m refl))
@@ -145,7 +144,7 @@ module _ {e r : ScoreboardPipeline} (d : Comes e start r) where
       }
 
 -- A retire where nothing is on offer is refused.
-no-retire : (e : ScoreboardPipeline) → 64 ≤ e .board .offer .writing → refusal (viewEngine e) retire ≡ some (cond (e .board .front .«in_cycle») 6 5)
+no-retire : (e : Engine) → 64 ≤ e .board .offer .writing → refusal (viewEngine e) retire ≡ some (cond (e .board .front .«in_cycle») 6 5)
 unfolding refusal checks none-on-offer first-of viewEngine viewBoard
 no-retire e h =
     let b = e .board in
@@ -157,13 +156,13 @@ no-retire e h =
     go false = refl
 
 -- So it is the offer, if there is one, that is retired.
-pub settled : {e r : ScoreboardPipeline} {k : Next} → Comes e start r → Does r retire k → Starts e (k .engine)
+pub settled : {e r : Engine} {k : Next} → Comes e start r → Does r retire k → Starts e (k .engine)
 settled {e} {r} d t =
     ⊎-elim (λ h. retired d h t) (λ h. subst (Starts e) (sym (t .refused _ (no-retire r h))) (none-offered d h)) (lt-or-ge (r .board .offer .writing) 64)
 
 -- ── The advance ─────────────────────────────────────────────────────────────
 
-pub cycled : {e h : ScoreboardPipeline} {k : Next} {m n : List ℕ} → Starts e h → Does h (advance none (length m)) k
+pub cycled : {e h : Engine} {k : Next} {m n : List ℕ} → Starts e h → Does h (advance none (length m)) k
     → n ≡ memory-after (viewEngine h) (advance none (length m)) m
     → Cycles e m (k .engine) n
 unfolding cycle

@@ -21,15 +21,15 @@ use Rattle.checks.specs.Numbered.{numbered}
 use Rattle.board.specs.declared.Sequencer.{Sequencer}
 use Rattle.board.specs.declared.Board.{Board}
 use Rattle.board.specs.View.{board-of}
-use Rattle.scoreboard.specs.declared.fetch.Intake.{Intake}
-use Rattle.scoreboard.specs.declared.ScoreboardPipeline.{ScoreboardPipeline}
-use Rattle.scoreboard.specs.declared.Answer.{Answer}
-use Rattle.scoreboard.specs.View.{viewEngine}
-use Rattle.scoreboard.specs.Valid.{Valid}
-use Rattle.scoreboard.specs.Calls.{Does, Tells}
-use Rattle.scoreboard.specs.Fetching.{row-text}
-use Rattle.scoreboard.specs.Taking.{given, Holds, Takes}
-use Rattle.scoreboard.proofs.Boards.{settled-refused}
+use Rattle.fetching.specs.declared.Intake.{Intake}
+use Rattle.engine.specs.Engine.{Engine}
+use Rattle.engine.specs.declared.Answer.{Answer}
+use Rattle.engine.specs.View.{viewEngine}
+use Rattle.engine.specs.Valid.{Valid}
+use Rattle.engine.specs.Calls.{Does, Tells}
+use Rattle.fetching.specs.Fetching.{row-text}
+use Rattle.fetching.specs.Taking.{given, Holds, Takes}
+use Rattle.engine.proofs.Boards.{settled-refused}
 use Rattle.driving.specs.declared.Fetched.{Fetched}
 use Rattle.driving.specs.Fetching.{over, fetched-engine, Fetches}
 
@@ -39,7 +39,7 @@ module _ (w : Window) (ts : Tracks) (m : Machine) (t : RegisterTable) (o : Pipel
   -- Refused: the parts are handed back.
   pub refusing
       : (s : Sequencer) (us : Units) {n : ℕ} → (n ≡ 0 → ⊥)
-      → ((e : ScoreboardPipeline) → Valid (over (board-of s us) w ts m t e)
+      → ((e : Engine) → Valid (over (board-of s us) w ts m t e)
       → refusal (viewEngine (over (board-of s us) w ts m t e)) (fetch (viewOp o) lent) ≡ some n)
       → Fetches (board-of s us) w ts m t o lent (record { board = s; table = t; place = 80; no = n }) ts
   unfolding numbered
@@ -56,7 +56,7 @@ module _ (w : Window) (ts : Tracks) (m : Machine) (t : RegisterTable) (o : Pipel
   pub taking
       : {b : Board} {read written : List ℕ} {cycles : ℕ} {r : Intake} {us : Tracks} {after : RegisterTable}
       → Takes (given b w ts read written (m .«instruction_bytes») cycles o) lent r us
-      → ((e : ScoreboardPipeline) → Valid (over b w ts m t e) → Holds (given b w ts read written (m .«instruction_bytes») cycles o) (over b w ts m t e) after)
+      → ((e : Engine) → Valid (over b w ts m t e) → Holds (given b w ts read written (m .«instruction_bytes») cycles o) (over b w ts m t e) after)
       → Fetches b w ts m t o lent (record { board = r .board; table = after; place = r .place; no = r .no }) us
   taking {b} {after = after} k h =
       record {
@@ -70,7 +70,7 @@ module _ (w : Window) (ts : Tracks) (m : Machine) (t : RegisterTable) (o : Pipel
 -- ── What stands at its place, and its row ───────────────────────────────────
 
 module _ {b : Board} {w : Window} {ts : Tracks} {m : Machine} {t : RegisterTable} {o : PipelineOp} {lent : ℕ} {r : Fetched} {us : Tracks}
-    (k : Fetches b w ts m t o lent r us) (z : r .no ≡ 0) (e : ScoreboardPipeline) (v : Valid (over b w ts m t e)) where
+    (k : Fetches b w ts m t o lent r us) (z : r .no ≡ 0) (e : Engine) (v : Valid (over b w ts m t e)) where
   abbrev Leaves : Answer → Window → ℕ → Decoded → Texts → RowText → Type 0
   Leaves a w′ s d x y = Does (over b w ts m t e) (fetch (viewOp o) lent) (record { engine = fetched-engine b m r us w′ s d x y e; answer = a })
 

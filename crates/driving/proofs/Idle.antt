@@ -12,19 +12,18 @@ use Rattle.flight.proofs.Entries.{queue-length}
 use Rattle.bank.specs.View.{viewUnits}
 use Rattle.board.specs.declared.Board.{Board}
 use Rattle.board.specs.View.{viewBoard, BoardOk}
-use Rattle.scoreboard.specs.declared.ScoreboardPipeline.{ScoreboardPipeline}
-use Rattle.scoreboard.specs.View.{legend-of, viewEngine}
-use Rattle.scoreboard.specs.Calls.{with-board}
+use Rattle.engine.specs.Engine.{Engine, with-board}
+use Rattle.engine.specs.View.{legend-of, viewEngine}
 
 module _ (b : Board) (k : BoardOk b) where
   pub queue-empty
-      : b .queue .len ≡ 0 → (r : Bool) → ((g : Legend) → r ≡ any is-busy (viewUnits g (b .units))) → (e : ScoreboardPipeline) → not r ≡ idle (viewEngine (with-board b e))
+      : b .queue .len ≡ 0 → (r : Bool) → ((g : Legend) → r ≡ any is-busy (viewUnits g (b .units))) → (e : Engine) → not r ≡ idle (viewEngine (with-board b e))
   unfolding idle viewEngine viewBoard
   queue-empty h r f e =
       ap not (f (legend-of e))
       ∙ sym (and-next _ (empty-yes (viewQueue (legend-of e) (b .queue)) (queue-length (k .queue) (legend-of e) ∙ h)))
 
-  pub queue-taken : (b .queue .len ≡ 0 → ⊥) → (e : ScoreboardPipeline) → false ≡ idle (viewEngine (with-board b e))
+  pub queue-taken : (b .queue .len ≡ 0 → ⊥) → (e : Engine) → false ≡ idle (viewEngine (with-board b e))
   unfolding idle viewEngine viewBoard
   queue-taken h e =
       let n = queue-length (k .queue) (legend-of e) in

@@ -32,14 +32,14 @@ use Rattle.lines.specs.Lines.{LineRead, Stands}
 use Rattle.lines.proofs.Stands.{fetched-alike}
 use Rattle.checks.specs.Numbered.{numbered}
 use Rattle.board.specs.View.{viewBoard}
-use Rattle.scoreboard.specs.declared.ScoreboardPipeline.{ScoreboardPipeline}
-use Rattle.scoreboard.specs.declared.Next.{Next}
-use Rattle.scoreboard.specs.declared.Answer.{Answer}
-use Rattle.scoreboard.specs.View.{viewEngine, viewAnswer}
-use Rattle.scoreboard.specs.Valid.{Valid}
-use Rattle.scoreboard.specs.Calls.{Does, Tells}
-use Rattle.scoreboard.proofs.Does.{memory-kept}
-use Rattle.scoreboard.proofs.Fetches.{some-number, no-number}
+use Rattle.engine.specs.Engine.{Engine, Next}
+use Rattle.engine.specs.declared.Answer.{Answer}
+use Rattle.engine.specs.View.{viewEngine, viewAnswer}
+use Rattle.engine.specs.Valid.{Valid}
+use Rattle.engine.specs.Calls.{Does, Tells}
+use Rattle.engine.proofs.Does.{memory-kept}
+use Rattle.checks.proofs.Passing.{some-number, no-number}
+use Rattle.scoreboard.specs.View.{pipeline}
 use Rattle.driving.specs.Runs.{run-by, viewRun, Goes}
 use Rattle.driving.proofs.Cycles.{comes, played}
 
@@ -75,7 +75,7 @@ module _ {input : Text} {from pc : ℕ} {r : Read} (l : LineRead input from pc r
       go none q = absurd (false≢true (sym h ∙ ap not (l .no-form q)))
       go (some x) q = f x q (l .is-form x q .1)
 
-module _ (input : Text) (from lines : ℕ) (r : Read) (e : ScoreboardPipeline) (m : List ℕ) (read : LineRead input from (e .board .«fetch_pc») r)
+module _ (input : Text) (from lines : ℕ) (r : Read) (e : Engine) (m : List ℕ) (read : LineRead input from (e .board .«fetch_pc») r)
     (h : lines ≤ from) where
   l : LineRead input from (viewEngine e .front .fetch-pc) r
   unfolding viewEngine viewBoard
@@ -93,7 +93,7 @@ module _ (input : Text) (from lines : ℕ) (r : Read) (e : ScoreboardPipeline) (
   one-more = omega arith
 
   pub no-line : Valid e → not (r .form) ≡ true
-      → Goes input (taking (parse (first-line (drop from input)))) (record { engine = e; at = r .next; lines = lines + 1; stands = 2; number = 14 }) m
+      → Goes input (taking (parse (first-line (drop from input)))) (record { engine = pipeline e; at = r .next; lines = lines + 1; stands = 2; number = 14 }) m
   unfolding take-parsed viewRun run-by
   no-line v f =
       record {
@@ -109,7 +109,7 @@ module _ (input : Text) (from lines : ℕ) (r : Read) (e : ScoreboardPipeline) (
     told-of = fetch-told (viewEngine e) m (viewOp (r .op)) (length m) (k .answer) number (d .answer m) t
 
     pub refused-line : (number ≡ 0 → ⊥)
-        → Goes input (taking (parse (first-line (drop from input)))) (record { engine = k .engine; at = r .next; lines = lines + 1; stands = 2; number = number }) n
+        → Goes input (taking (parse (first-line (drop from input)))) (record { engine = pipeline (k .engine); at = r .next; lines = lines + 1; stands = 2; number = number }) n
     unfolding take-parsed take-fetched fetch-line viewRun run-by
     refused-line z =
         let o = some-number told-of z in
@@ -127,7 +127,7 @@ module _ (input : Text) (from lines : ℕ) (r : Read) (e : ScoreboardPipeline) (
         }
 
     pub fetched-line : number ≡ 0
-        → Goes input (taking (parse (first-line (drop from input)))) (record { engine = k .engine; at = r .next; lines = lines + 1; stands = 0; number = 0 }) n
+        → Goes input (taking (parse (first-line (drop from input)))) (record { engine = pipeline (k .engine); at = r .next; lines = lines + 1; stands = 0; number = 0 }) n
     unfolding take-parsed take-fetched fetch-line viewRun run-by
     fetched-line z =
         let o = no-number told-of z in

@@ -32,9 +32,10 @@ use Rattle.model.specs.Forecast.{
   fuel-for,
 }
 use Rattle.board.specs.View.{viewBoard}
-use Rattle.scoreboard.specs.declared.ScoreboardPipeline.{ScoreboardPipeline}
-use Rattle.scoreboard.specs.View.{viewEngine}
-use Rattle.scoreboard.specs.Valid.{Valid}
+use Rattle.engine.specs.Engine.{Engine}
+use Rattle.engine.specs.View.{viewEngine}
+use Rattle.engine.specs.Valid.{Valid}
+use Rattle.scoreboard.specs.View.{parts, pipeline}
 use Rattle.driving.specs.declared.Going.{Going}
 use Rattle.driving.specs.Runs.{run-by, viewRun, Cycles, Goes}
 
@@ -43,7 +44,7 @@ goes-as e t = record { is = t .is ∙ e; valid = t .valid; at = t .at; lines = t
 
 -- ── A cycle, and a line where an invitation takes it ────────────────────────
 
-module _ (e : ScoreboardPipeline) where
+module _ (e : Engine) where
   invited : e .board .front .invited ≡ true → invitation-of (viewEngine e) ≡ some (viewEngine e .front .fetch-pc)
   unfolding invitation-of viewEngine viewBoard
   invited h = cond-yes _ _ h
@@ -64,7 +65,7 @@ none-there none t n e h = refl
 none-there (some pc) [] n e h = refl
 none-there (some pc) (x ∷ xs) n e h = absurd (⊎-elim (λ q. let z : _≡_ {A = ℕ} 0 1 = cc in omega arith) (λ q. omega arith) h)
 
-module _ {e r : ScoreboardPipeline} {m n : List ℕ} (c : Cycles e m r n) (input : Text) (at lines : ℕ) where
+module _ {e r : Engine} {m n : List ℕ} (c : Cycles e m r n) (input : Text) (at lines : ℕ) where
   after-cycle : cycle-and-line (lent-of (viewEngine e) m) (drop at input) lines ≡ take-line (invitation-of (viewEngine r)) (drop at input) lines (lent-of (viewEngine r) n)
   unfolding cycle-and-line
   after-cycle = ap (λ (l : Lent). take-line (invitation-of (l .engine)) (drop at input) lines l) (sym (c .is))
@@ -82,7 +83,7 @@ module _ {e r : ScoreboardPipeline} {m n : List ℕ} (c : Cycles e m r n) (input
       t
 
   pub no-line-taken : at ≤ length input → lines ≤ at → (r .board .front .invited ≡ false) ⊎ (ltb at (length input) ≡ false)
-      → Goes input (cycle-and-line (lent-of (viewEngine e) m) (drop at input) lines) (record { engine = r; at = at; lines = lines; stands = 0; number = 0 }) n
+      → Goes input (cycle-and-line (lent-of (viewEngine e) m) (drop at input) lines) (record { engine = pipeline r; at = at; lines = lines; stands = 0; number = 0 }) n
   unfolding viewRun run-by
   no-line-taken a l h =
       record {
@@ -101,13 +102,13 @@ module _ {e r : ScoreboardPipeline} {m n : List ℕ} (c : Cycles e m r n) (input
 turn-by : Bool → Lent → Text → ℕ → Run
 turn-by b e input n = elim b [ true ↦ finished e | false ↦ cycle-and-line e input n ]
 
-module _ (e : ScoreboardPipeline) (input : Text) (at lines : ℕ) (m : List ℕ) where
+module _ (e : Engine) (input : Text) (at lines : ℕ) (m : List ℕ) where
   turn-is : {b : Bool} → is-empty (drop at input) && idle (viewEngine e) ≡ b → turn (lent-of (viewEngine e) m) (drop at input) lines ≡ turn-by b (lent-of (viewEngine e) m) (drop at input) lines
   unfolding turn turn-by
   turn-is h = ap (λ b. turn-by b (lent-of (viewEngine e) m) (drop at input) lines) h
 
   pub turn-ends : Valid e → lines ≤ at → at ≡ length input → idle (viewEngine e) ≡ true → {number : ℕ}
-      → Goes input (turn (lent-of (viewEngine e) m) (drop at input) lines) (record { engine = e; at = at; lines = lines; stands = 1; number = number }) m
+      → Goes input (turn (lent-of (viewEngine e) m) (drop at input) lines) (record { engine = pipeline e; at = at; lines = lines; stands = 1; number = number }) m
   unfolding turn-by viewRun run-by
   turn-ends v l h i =
       record {
@@ -136,7 +137,7 @@ module _ (e : ScoreboardPipeline) (input : Text) (at lines : ℕ) (m : List ℕ)
 pub record Running (input : Text) (whole : Run) (cells₀ cells : List ℕ) (g : Going) (fuel : ℕ) : Type 0 where
   pub is : forecast-run fuel (viewRun input g cells) ≡ whole
   pub on : 0 < fuel → g .stands ≡ 0
-  pub valid : Valid (g .engine)
+  pub valid : Valid (parts (g .engine))
   pub at : g .at ≤ length input
   pub lines : g .lines ≤ g .at
   pub size : length cells ≡ length cells₀
@@ -156,13 +157,13 @@ stays (suc fuel) (suc (suc k)) input g cells h = refl
 
 module _ {input : Text} {whole : Run} {cells₀ cells : List ℕ} {g : Going} {fuel : ℕ} (r : Running input whole cells₀ cells g fuel) where
   -- A turn.
-  module _ (f : 0 < fuel) {h : Going} {next : List ℕ} (t : Goes input (turn (lent-of (viewEngine (g .engine)) cells) (drop (g .at) input) (g .lines)) h next)
+  module _ (f : 0 < fuel) {h : Going} {next : List ℕ} (t : Goes input (turn (lent-of (viewEngine (parts (g .engine))) cells) (drop (g .at) input) (g .lines)) h next)
       (n : length next ≡ length cells) where
     left : forecast-run (fuel - 1) (viewRun input h next) ≡ whole
     unfolding viewRun run-by
     left =
         ap (forecast-run (fuel - 1)) (t .is)
-        ∙ turned fuel (lent-of (viewEngine (g .engine)) cells) (drop (g .at) input) (g .lines) f
+        ∙ turned fuel (lent-of (viewEngine (parts (g .engine))) cells) (drop (g .at) input) (g .lines) f
         ∙ sym (ap (λ k. forecast-run fuel (run-by k input g cells)) (r .on f))
         ∙ r .is
 
@@ -210,8 +211,8 @@ module _ {input : Text} {whole : Run} {cells₀ cells : List ℕ} {g : Going} {f
       }
 
 -- The run from the start, with its fuel, of an engine that was laid out.
-pub whole-run : {e f : ScoreboardPipeline} → e ≡ f → (cells : List ℕ) {input : Text} {h : Going} {k : List ℕ}
-    → Goes input (forecast-run (100 * (length input + 1)) (viewRun input (record { engine = e; at = 0; lines = 0; stands = 0; number = 0 }) cells)) h k
+pub whole-run : {e f : Engine} → e ≡ f → (cells : List ℕ) {input : Text} {h : Going} {k : List ℕ}
+    → Goes input (forecast-run (100 * (length input + 1)) (viewRun input (record { engine = pipeline e; at = 0; lines = 0; stands = 0; number = 0 }) cells)) h k
     → Goes input (forecast-run (fuel-for input) (going (lent-of (viewEngine f) cells) input 0)) h k
 unfolding viewRun run-by fuel-for
 whole-run {e} q cells {input} =
@@ -220,8 +221,8 @@ whole-run {e} q cells {input} =
     ∙ ap (λ x. forecast-run (100 * suc (length input)) (going (lent-of (viewEngine x) cells) input 0)) q)
 
 -- The engine of its end, taken up again.
-pub goes-back : {input : Text} {a : Run} {e f : ScoreboardPipeline} {at lines stands number : ℕ} {m : List ℕ} → f ≡ e
-    → Goes input a (record { engine = e; at = at; lines = lines; stands = stands; number = number }) m
-    → Goes input a (record { engine = f; at = at; lines = lines; stands = stands; number = number }) m
+pub goes-back : {input : Text} {a : Run} {e f : Engine} {at lines stands number : ℕ} {m : List ℕ} → f ≡ e
+    → Goes input a (record { engine = pipeline e; at = at; lines = lines; stands = stands; number = number }) m
+    → Goes input a (record { engine = pipeline f; at = at; lines = lines; stands = stands; number = number }) m
 goes-back {input} {a} {at = at} {lines} {stands} {number} {m} q =
-    subst (λ x. Goes input a (record { engine = x; at = at; lines = lines; stands = stands; number = number }) m) (sym q)
+    subst (λ x. Goes input a (record { engine = pipeline x; at = at; lines = lines; stands = stands; number = number }) m) (sym q)

@@ -19,26 +19,26 @@ use Rattle.timeline.specs.declared.Window.{Window}
 use Rattle.timeline.specs.View.{opened}
 use Rattle.board.specs.declared.Board.{Board}
 use Rattle.board.specs.View.{board-of}
-use Rattle.scoreboard.specs.declared.ScoreboardPipeline.{ScoreboardPipeline}
-use Rattle.scoreboard.specs.declared.Answer.{Answer}
-use Rattle.scoreboard.specs.View.{viewEngine}
-use Rattle.scoreboard.specs.Valid.{Valid}
-use Rattle.scoreboard.specs.Calls.{Does, Tells}
-use Rattle.scoreboard.specs.Fetching.{row-text}
+use Rattle.engine.specs.Engine.{Engine}
+use Rattle.engine.specs.declared.Answer.{Answer}
+use Rattle.engine.specs.View.{viewEngine}
+use Rattle.engine.specs.Valid.{Valid}
+use Rattle.engine.specs.Calls.{Does, Tells}
+use Rattle.fetching.specs.Fetching.{row-text}
 use Rattle.driving.specs.declared.Fetched.{Fetched}
 
 -- The engine with these parts, else as it is.
-abbrev pub over : Board → Window → Tracks → Machine → RegisterTable → ScoreboardPipeline → ScoreboardPipeline
+abbrev pub over : Board → Window → Tracks → Machine → RegisterTable → Engine → Engine
 over b w ts m t e =
     record { board = b; window = w; tracks = ts; decoded = e .decoded; machine = m; table = t; texts = e .texts; rows = e .rows }
 
 -- There is a valid one.
 pub record Fetchable (b : Board) (w : Window) (ts : Tracks) (m : Machine) (t : RegisterTable) : Type 0 where
-  pub engine : ScoreboardPipeline
+  pub engine : Engine
   pub valid : Valid (over b w ts m t engine)
 
 -- The engine after it: the operation and its text at its place, and the row in a slot.
-abbrev pub fetched-engine : Board → Machine → Fetched → Tracks → Window → ℕ → Decoded → Texts → RowText → ScoreboardPipeline → ScoreboardPipeline
+abbrev pub fetched-engine : Board → Machine → Fetched → Tracks → Window → ℕ → Decoded → Texts → RowText → Engine → Engine
 fetched-engine b m r ts w slot d t x e =
     record {
       board = board-of (r .board) (b .units);
@@ -59,7 +59,7 @@ pub record Fetches (b : Board) (w : Window) (ts : Tracks) (m : Machine) (t : Reg
   pub good : r .no ≡ 0 → bad-info (viewOp o .info) ≡ false
   pub next : r .no ≡ 0 → w .next < max64
   pub takes
-      : r .no ≡ 0 → (e : ScoreboardPipeline) → Valid (over b w ts m t e) → (a : Answer) → Tells (r .no) a
+      : r .no ≡ 0 → (e : Engine) → Valid (over b w ts m t e) → (a : Answer) → Tells (r .no) a
       → Does (over b w ts m t e) (fetch (viewOp o) lent)
       (record {
         engine =
@@ -67,10 +67,10 @@ pub record Fetches (b : Board) (w : Window) (ts : Tracks) (m : Machine) (t : Reg
         answer = a;
       })
   pub refuses
-      : (r .no ≡ 0 → ⊥) → (e : ScoreboardPipeline) → Valid (over b w ts m t e) → (a : Answer) → Tells (r .no) a
+      : (r .no ≡ 0 → ⊥) → (e : Engine) → Valid (over b w ts m t e) → (a : Answer) → Tells (r .no) a
       → Does (over b w ts m t e) (fetch (viewOp o) lent) (record { engine = over (board-of (r .board) (b .units)) w ts′ m t e; answer = a })
 
 abbrev pub FetchWrites : Board → Window → Tracks → Machine → RegisterTable → PipelineOp → List ℕ → List ℕ → Type 0
 FetchWrites b w ts m t o before after =
-    (e : ScoreboardPipeline) → Valid (over b w ts m t e)
+    (e : Engine) → Valid (over b w ts m t e)
     → after ≡ memory-after (viewEngine (over b w ts m t e)) (fetch (viewOp o) (length before)) before

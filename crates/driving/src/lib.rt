@@ -1,5 +1,7 @@
 // The run of the program `forecast`: it drives the engine by its calls alone, each on the parts that it works on. Each invitation takes a line, every
 // offer is retired, and it ends when the lines are used up and nothing is in flight.
+use advancing::Rest;
+use advancing::advanced;
 use board::Sequencer;
 use capability::PipelineStageRole;
 use config::Machine;
@@ -7,17 +9,15 @@ use config::PipelineShape;
 use config::PipelineTiming;
 use config::StageSpec;
 use config::UnitSpec;
+use fetching::row_of;
+use fetching::taken;
 use flight::pool::Decoded;
 use flight::pool::Texts;
+use offering::retired;
 use op::MaybeNumber;
 use op::PipelineOp;
 use registers::RegisterTable;
 use scoreboard::ScoreboardPipeline;
-use scoreboard::advance::Rest;
-use scoreboard::advance::advanced;
-use scoreboard::fetch::row_of;
-use scoreboard::fetch::taken;
-use scoreboard::retired;
 use timeline::Window;
 ghost use mathlib.Core.Path.{_≡_};
 ghost use Prim.Native.Nat.{_≤_};
@@ -28,11 +28,11 @@ ghost use Rattle.config.specs.View.{viewShape};
 ghost use Rattle.tracks.specs.View.{tracks-of, TracksSized};
 ghost use Rattle.slots.specs.View.{units-of, Sized};
 ghost use Rattle.board.specs.View.{board-of, BoardOk};
-ghost use Rattle.scoreboard.specs.declared.ScoreboardPipeline.{ScoreboardPipeline};
-ghost use Rattle.scoreboard.specs.View.{viewEngine};
-ghost use Rattle.scoreboard.specs.Valid.{Valid};
-ghost use Rattle.scoreboard.specs.Calls.{with-board};
-ghost use Rattle.scoreboard.specs.Advance.{rested};
+ghost use Rattle.engine.specs.Engine.{Engine, with-board};
+ghost use Rattle.engine.specs.View.{viewEngine};
+ghost use Rattle.engine.specs.Valid.{Valid};
+ghost use Rattle.advancing.specs.Advance.{rested};
+ghost use Rattle.scoreboard.specs.View.{parts};
 ghost use Rattle.driving.specs.Runs.{Starts, Cyclable, CyclesWith, Goes};
 ghost use Rattle.driving.specs.Fetching.{Fetchable, Fetches, FetchWrites};
 
@@ -81,7 +81,7 @@ pub fn forecast_shape() -> PipelineShape
 fn is_idle(board: Sequencer, us: &[[u8; 40]], ss: &[u64], n: usize) -> bool
     requires { ⌜ Sized (now us) (now ss) ⌝ }
     requires { ⌜ BoardOk (board-of board (units-of (now us) (now ss) n)) ⌝ }
-    ensures { λ r. ⌜ ((e : ScoreboardPipeline) → r ≡ idle (viewEngine (with-board (board-of board (units-of (now (us .entry)) (now (ss .entry)) n)) e))) ⌝ }
+    ensures { λ r. ⌜ ((e : Engine) → r ≡ idle (viewEngine (with-board (board-of board (units-of (now (us .entry)) (now (ss .entry)) n)) e))) ⌝ }
 {
     if board.queue.len == 0 {
         !stepping::any_busy(us, ss, n)
@@ -95,7 +95,7 @@ fn is_idle(board: Sequencer, us: &[[u8; 40]], ss: &[u64], n: usize) -> bool
 fn started(board: Sequencer, us: &mut [[u8; 40]], ss: &mut [u64], n: usize) -> Sequencer
     requires { ⌜ Sized (now us) (now ss) ⌝ }
     requires { ⌜ BoardOk (board-of board (units-of (now us) (now ss) n)) ⌝ }
-    ensures is { λ r. ⌜ ((e : ScoreboardPipeline) → Valid (with-board (board-of board (units-of (now (us .entry)) (now (ss .entry)) n)) e) → Starts (with-board (board-of board (units-of (now (us .entry)) (now (ss .entry)) n)) e) (with-board (board-of r (units-of (now (us .exit)) (now (ss .exit)) n)) e)) ⌝ }
+    ensures is { λ r. ⌜ ((e : Engine) → Valid (with-board (board-of board (units-of (now (us .entry)) (now (ss .entry)) n)) e) → Starts (with-board (board-of board (units-of (now (us .entry)) (now (ss .entry)) n)) e) (with-board (board-of r (units-of (now (us .exit)) (now (ss .exit)) n)) e)) ⌝ }
     ensures size { λ r. ⌜ Sized (now (us .exit)) (now (ss .exit)) ⌝ }
 {
     let b = if board.front.in_cycle {
@@ -233,9 +233,9 @@ fn fetch(
 // (docs/DECISIONS.md, 57).
 // model: Forecast.forecast-run, turn, cycle-and-line, take-parsed, fuel-for
 pub fn run(engine: ScoreboardPipeline, input: &[u8], cells: &mut [u8]) -> Going
-    requires { ⌜ Valid engine ⌝ }
+    requires { ⌜ Valid (parts engine) ⌝ }
     requires { ⌜ length (now input) ≤ 65536 ⌝ }
-    ensures { λ r. ⌜ Goes (now (input .entry)) (forecast-run (fuel-for (now (input .entry))) (going (lent-of (viewEngine engine) (now (cells .entry))) (now (input .entry)) 0)) r (now (cells .exit)) ⌝ }
+    ensures { λ r. ⌜ Goes (now (input .entry)) (forecast-run (fuel-for (now (input .entry))) (going (lent-of (viewEngine (parts engine)) (now (cells .entry))) (now (input .entry)) 0)) r (now (cells .exit)) ⌝ }
 {
     let whole = engine.board;
     let units = whole.units;

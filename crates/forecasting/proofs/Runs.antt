@@ -11,6 +11,7 @@ use Rattle.timeline.specs.View.{viewRows}
 use Rattle.stalls.specs.View.{viewLog, viewStats}
 use Rattle.board.specs.View.{viewBoard}
 use Rattle.scoreboard.specs.View.{viewEngine}
+use Rattle.engine.specs.View.{viewEngine as engine-view}
 use Rattle.driving.specs.declared.Going.{Going}
 use Rattle.driving.specs.Runs.{run-by, viewRun}
 use Rattle.pages.proofs.Lengths.{decimal-most}
@@ -44,7 +45,7 @@ module _ (input : Text) (g : Going) (m : List ℕ) where
       → printed (viewRun input g m)
       ≡ rows-text (lent-of (viewEngine (g .engine)) m) (viewRows (g .engine .window) (g .engine .tracks) (g .engine .rows))
       ++ totals-text (viewStats (g .engine .board .log .stats))
-  unfolding viewRun run-by printed viewEngine viewBoard viewLog
+  unfolding viewRun run-by printed engine-view viewBoard viewLog
   rows-printed h = ap (λ k. printed (run-by k input g m)) h
 
 -- ── How long it is ──────────────────────────────────────────────────────────

@@ -2,7 +2,7 @@
 use capability::PipelineTraceKind;
 use stalls::TraceList;
 use stalls::kind_of;
-use traces::WaitForm;
+use timeline::WaitForm;
 ghost use mathlib.Core.Path.{_≡_};
 ghost use Rattle.laws.specs.Optional.{omap};
 ghost use Rattle.laws.specs.Lists.{nth};

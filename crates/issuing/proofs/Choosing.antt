@@ -29,9 +29,9 @@ use Rattle.registers.specs.Look.{Numbers, with-names}
 use Rattle.flight.specs.declared.Queued.{Queued}
 use Rattle.flight.specs.View.{read, written, viewOperands, viewQueued, viewQueue, op-with, entries, QueueOk}
 use Rattle.flight.proofs.Entries.{view-entries, queue-length}
-use Rattle.traces.specs.declared.WaitForm.{WaitForm}
-use Rattle.traces.specs.declared.WaitForm.the-variants.{BehindBranch, BehindSystem}
-use Rattle.traces.specs.Waits.{detail-of}
+use Rattle.timeline.specs.declared.WaitForm.{WaitForm}
+use Rattle.timeline.specs.declared.WaitForm.the-variants.{BehindBranch, BehindSystem}
+use Rattle.timeline.specs.Waits.{detail-of}
 use Rattle.stalls.specs.View.{form-kind, form-from, form-to, number-word, word-at, viewTrace}
 use Rattle.bank.specs.View.{viewUnits}
 use Rattle.board.specs.declared.Board.{Board}

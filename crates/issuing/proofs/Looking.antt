@@ -29,8 +29,8 @@ use Rattle.flight.specs.declared.Queued.{Queued}
 use Rattle.flight.specs.declared.Queue.{Queue}
 use Rattle.flight.specs.View.{Legend, read, written, viewOperands, viewQueued, viewQueue, entries}
 use Rattle.flight.proofs.Entries.{view-entries}
-use Rattle.traces.specs.declared.WaitForm.{WaitForm}
-use Rattle.traces.specs.declared.WaitForm.the-variants.{
+use Rattle.timeline.specs.declared.WaitForm.{WaitForm}
+use Rattle.timeline.specs.declared.WaitForm.the-variants.{
   Overwrites,
   MemoryOrder,
   Drains,
@@ -42,7 +42,7 @@ use Rattle.traces.specs.declared.WaitForm.the-variants.{
   AllBusy,
   RedirectTo,
 }
-use Rattle.traces.specs.Waits.{detail-of}
+use Rattle.timeline.specs.Waits.{detail-of}
 use Rattle.stalls.specs.declared.Trace.{Trace}
 use Rattle.stalls.specs.declared.Log.{Log}
 use Rattle.stalls.specs.View.{form-kind, form-from, form-to, number-word, word-at, viewTrace, listed, viewTraces, viewStats, viewLog}

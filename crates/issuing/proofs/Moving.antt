@@ -24,7 +24,7 @@ use Rattle.flight.specs.declared.Queued.{Queued}
 use Rattle.flight.specs.declared.Queue.{Queue}
 use Rattle.flight.specs.View.{Legend, read, written, viewQueued, entries, QueuedOk, QueueOk}
 use Rattle.flight.proofs.Entries.{entries-length, entries-next, entries-ok}
-use Rattle.traces.specs.declared.WaitForm.{WaitForm}
+use Rattle.timeline.specs.declared.WaitForm.{WaitForm}
 use Rattle.stalls.specs.declared.Trace.{Trace}
 use Rattle.stalls.specs.declared.TraceList.{TraceList}
 use Rattle.stalls.specs.View.{listed, TraceListOk}

@@ -20,8 +20,8 @@ use Rattle.registers.specs.Look.{through}
 use Rattle.flight.specs.declared.Operands.{Operands}
 use Rattle.flight.specs.declared.Queued.{Queued}
 use Rattle.flight.specs.View.{Legend, read, written, viewQueued, viewQueue, entries}
-use Rattle.traces.specs.declared.WaitForm.{WaitForm}
-use Rattle.traces.specs.declared.WaitForm.the-variants.{StillWrites, AllBusy}
+use Rattle.timeline.specs.declared.WaitForm.{WaitForm}
+use Rattle.timeline.specs.declared.WaitForm.the-variants.{StillWrites, AllBusy}
 use Rattle.stalls.specs.declared.Trace.{Trace}
 use Rattle.stalls.specs.View.{form-kind, viewTrace, listed}
 use Rattle.bank.specs.View.{viewUnits, places}

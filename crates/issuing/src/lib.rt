@@ -4,7 +4,7 @@ use config::Machine;
 use flight::Queued;
 use registers::MaybeIndex;
 use stalls::Trace;
-use traces::WaitForm;
+use timeline::WaitForm;
 use units::is_system;
 ghost use mathlib.Core.Path.{_≡_};
 ghost use mathlib.Core.Bool.{true};

@@ -24,8 +24,8 @@ use Rattle.flight.specs.declared.pool.DecodedPool.{DecodedPool}
 use Rattle.flight.specs.declared.pool.TextPool.{TextPool}
 use Rattle.flight.specs.View.{carried-at}
 use Rattle.flight.specs.Pool.{legend}
-use Rattle.traces.specs.declared.WaitForm.{WaitForm}
-use Rattle.traces.specs.declared.WaitForm.the-variants.{
+use Rattle.timeline.specs.declared.WaitForm.{WaitForm}
+use Rattle.timeline.specs.declared.WaitForm.the-variants.{
   Overwrites,
   MemoryOrder,
   Drains,
@@ -37,8 +37,8 @@ use Rattle.traces.specs.declared.WaitForm.the-variants.{
   AllBusy,
   RedirectTo,
 }
-use Rattle.traces.specs.Waits.{detail-of}
-use Rattle.traces.proofs.WaitForm as form
+use Rattle.timeline.specs.Waits.{detail-of}
+use Rattle.timeline.proofs.WaitForm as form
 use Rattle.stalls.specs.declared.Trace.{Trace}
 use Rattle.stalls.specs.declared.TraceList.{TraceList}
 use Rattle.stalls.specs.View.{Frame, number-word, word-at, viewTrace, listed, viewTraces, TraceListOk}

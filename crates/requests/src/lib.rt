@@ -15,7 +15,7 @@ use occupants::station_op;
 use op::Name;
 use registers::RegisterTable;
 use stalls::TraceList;
-use traces::WaitForm;
+use timeline::WaitForm;
 use traces::texts::Written;
 
 // The label of a station, and the names of claimed registers and of operands.

@@ -25,8 +25,8 @@ use Rattle.config.specs.View.{viewMachine}
 use Rattle.config.specs.Kept.{MachineOk}
 use Rattle.config.specs.Checks.{noted-specs, noted, capacity-checks, capacity-refusal}
 use Rattle.checks.specs.Numbered.{numbered}
-use Rattle.traces.specs.declared.WaitForm.{WaitForm}
-use Rattle.traces.specs.declared.WaitForm.the-variants.{
+use Rattle.timeline.specs.declared.WaitForm.{WaitForm}
+use Rattle.timeline.specs.declared.WaitForm.the-variants.{
   Overwrites,
   MemoryOrder,
   Drains,
@@ -49,13 +49,13 @@ use Rattle.board.specs.Contracts.{queue-places, taken-places}
 use Rattle.board.proofs.Knowing.{blank}
 use Rattle.board.proofs.Vacancy.{Empty, no-offer, none-placed}
 use Rattle.board.proofs.Counting.{names-more, taken-count, apart-kept}
-use Rattle.scoreboard.specs.declared.ScoreboardPipeline.{ScoreboardPipeline}
-use Rattle.scoreboard.specs.View.{legend-of, frame-of, viewEngine}
-use Rattle.scoreboard.specs.Valid.{Parts}
+use Rattle.engine.specs.Engine.{Engine}
+use Rattle.engine.specs.View.{legend-of, frame-of, viewEngine}
+use Rattle.engine.specs.Valid.{Parts}
 use Rattle.scoreboard.specs.Control.{Built, Rebuilds}
-use Rattle.scoreboard.proofs.Fetches.{row-passes, no-number}
+use Rattle.checks.proofs.Passing.{row-passes, no-number}
 use Rattle.scoreboard.proofs.Fresh.{no-count}
-use Rattle.scoreboard.proofs.Legends.{WaitAgrees, waits-agree}
+use Rattle.engine.proofs.Legends.{WaitAgrees, waits-agree}
 
 -- ── The kinds' names ────────────────────────────────────────────────────────
 
@@ -130,7 +130,7 @@ with-bank us b =
       status = b .status;
     }
 
-abbrev pub noted-engine : Units → Machine → ScoreboardPipeline → ScoreboardPipeline
+abbrev pub noted-engine : Units → Machine → Engine → Engine
 noted-engine us m e =
     record {
       board = with-bank us (e .board);
@@ -143,12 +143,12 @@ noted-engine us m e =
       rows = e .rows;
     }
 
-module _ {e : ScoreboardPipeline} (p : Parts e) (kind n : ℕ) {m : Machine} {us : Units}
+module _ {e : Engine} (p : Parts e) (kind n : ℕ) {m : Machine} {us : Units}
     (k : Means viewMachine MachineOk m (noted kind n (viewMachine (e .machine)))) (u : Rebuilds (viewMachine m) (e .board .units) us) where
   abbrev b : Board
   b = e .board
 
-  abbrev r : ScoreboardPipeline
+  abbrev r : Engine
   r = noted-engine us m e
 
   waits-same : (l : List Trace) → All (WaitAgrees (log-frame (frame-of e) b) (log-frame (frame-of r) (r .board))) l

@@ -28,10 +28,10 @@ use Rattle.board.specs.View.{Frame, boards}
 use Rattle.board.specs.Contracts.{queue-places, taken-places, Apart, Fresh, Names}
 use Rattle.board.proofs.Knowing.{Knows, knows-kept}
 use Rattle.board.proofs.Counting.{taken-count}
-use Rattle.scoreboard.specs.declared.ScoreboardPipeline.{ScoreboardPipeline}
-use Rattle.scoreboard.specs.View.{frame-of, viewEngine}
-use Rattle.scoreboard.specs.Valid.{Parts}
-use Rattle.scoreboard.proofs.Dropping.{empty-looks}
+use Rattle.engine.specs.Engine.{Engine}
+use Rattle.engine.specs.View.{frame-of, viewEngine}
+use Rattle.engine.specs.Valid.{Parts}
+use Rattle.engine.proofs.Dropping.{empty-looks}
 
 -- ── Units that are built ────────────────────────────────────────────────────
 
@@ -102,7 +102,7 @@ fresh-board on st r =
       status = r .status;
     }
 
-abbrev pub fresh-engine : ScoreboardPipeline → Board → Window → ScoreboardPipeline
+abbrev pub fresh-engine : Engine → Board → Window → Engine
 fresh-engine e b w =
     record {
       board = b;
@@ -115,7 +115,7 @@ fresh-engine e b w =
       rows = e .rows;
     }
 
-module _ {e : ScoreboardPipeline} (p : Parts e) {us : Units} {entry : ℕ} {r : Board} (f : Fresh us entry r)
+module _ {e : Engine} (p : Parts e) {us : Units} {entry : ℕ} {r : Board} (f : Fresh us entry r)
     (u : UnitsAre us (λ g. build-units 0 (viewMachine (e .machine) .specs)) (replicate (capacities (viewMachine (e .machine) .specs)) 80))
     (on : Bool) (st : PipelineStats) (w : Window) where
   pub fresh-is : viewEngine (fresh-engine e (fresh-board on st r) w)

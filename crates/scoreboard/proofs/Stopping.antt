@@ -17,17 +17,17 @@ use Rattle.board.specs.declared.Board.{Board}
 use Rattle.board.specs.View.{viewBoard}
 use Rattle.board.specs.Contracts.{queue-places, Drops}
 use Rattle.board.proofs.Counting.{taken-count, apart-kept}
-use Rattle.scoreboard.specs.declared.ScoreboardPipeline.{ScoreboardPipeline}
-use Rattle.scoreboard.specs.View.{frame-of, viewEngine}
-use Rattle.scoreboard.specs.Valid.{Parts}
+use Rattle.engine.specs.Engine.{Engine}
+use Rattle.engine.specs.View.{frame-of, viewEngine}
+use Rattle.engine.specs.Valid.{Parts}
 use Rattle.scoreboard.proofs.Fresh.{no-count}
-use Rattle.scoreboard.proofs.Dropping.{with-names, dropped-names, empty-looks}
+use Rattle.engine.proofs.Dropping.{with-names, dropped-names, empty-looks}
 
 map-none : {A B : Type 0} (f : A → B) (l : List A) → map f l ≡ [] → l ≡ []
 map-none f [] e = refl
 map-none f (x ∷ l) e = absurd (let z : _≡_ {A = ℕ} (suc (length (map f l))) 0 = ap length e in omega arith)
 
-abbrev pub stopped-engine : Board → ScoreboardPipeline → ScoreboardPipeline
+abbrev pub stopped-engine : Board → Engine → Engine
 stopped-engine b e =
     record {
       board = b;
@@ -40,7 +40,7 @@ stopped-engine b e =
       rows = e .rows;
     }
 
-module _ {e : ScoreboardPipeline} (p : Parts e) {f : State → State} {r : Board} (d : Drops (e .board) r f) where
+module _ {e : Engine} (p : Parts e) {f : State → State} {r : Board} (d : Drops (e .board) r f) where
   nothing-queued : entries (r .queue) ≡ []
   unfolding queue-places
   nothing-queued = map-none (λ (q : Queued). q .place) (entries (r .queue)) (d .queue)

@@ -1,60 +1,47 @@
--- What the engine means to the model, and what its answers are.
-use Prim.Native.Nat.{ℕ}
-use mathlib.Core.Option.{none, some}
+-- The struct by its parts, and what it means to the model.
 use Rattle.model.specs.State.{State}
-use Rattle.model.specs.Views.{OfferView as ModelOffer}
-use Rattle.model.specs.Calls.{Answer as ModelAnswer, refused, done, offered, resolved, invitation}
-use Rattle.config.specs.View.{viewMachine}
-use Rattle.registers.specs.View.{viewHeld}
-use Rattle.timeline.specs.View.{viewRows}
 use Rattle.flight.specs.View.{Legend}
-use Rattle.flight.specs.Pool.{legend}
-use Rattle.board.specs.View.{Frame, viewBoard}
+use Rattle.board.specs.View.{Frame}
+use Rattle.engine.specs.Engine.{Engine, Next as Outcome}
+use Rattle.engine.specs.View as engine
 use Rattle.scoreboard.specs.declared.ScoreboardPipeline.{ScoreboardPipeline}
-use Rattle.scoreboard.specs.declared.OfferView.{OfferView}
-use Rattle.scoreboard.specs.declared.Answer.{Answer}
-use Rattle.scoreboard.specs.declared.Answer.the-variants as a
+use Rattle.scoreboard.specs.declared.Next.{Next}
 
--- What the board's numbers stand for: the pool by place, the names held by register.
+abbrev pub parts : ScoreboardPipeline → Engine
+parts e =
+    record {
+      board = e .board;
+      window = e .window;
+      tracks = e .tracks;
+      decoded = e .decoded;
+      machine = e .machine;
+      table = e .table;
+      texts = e .texts;
+      rows = e .rows;
+    }
+
+-- The struct of parts.
+abbrev pub pipeline : Engine → ScoreboardPipeline
+pipeline e =
+    record {
+      board = e .board;
+      window = e .window;
+      tracks = e .tracks;
+      decoded = e .decoded;
+      machine = e .machine;
+      table = e .table;
+      texts = e .texts;
+      rows = e .rows;
+    }
+
+abbrev pub outcome : Next → Outcome
+outcome r = record { engine = parts (r .engine); answer = r .answer }
+
 abbrev pub legend-of : ScoreboardPipeline → Legend
-legend-of e = legend (e .decoded) (e .texts) (viewHeld (e .table))
+legend-of e = engine.legend-of (parts e)
 
 abbrev pub frame-of : ScoreboardPipeline → Frame
-frame-of e =
-    record {
-      legend = legend-of e;
-      machine = viewMachine (e .machine);
-      rows = viewRows (e .window) (e .tracks) (e .rows);
-      next = e .window .next;
-    }
+frame-of e = engine.frame-of (parts e)
 
-unfoldable pub viewEngine : ScoreboardPipeline → State
-viewEngine e = viewBoard (frame-of e) (e .board)
-
-unfoldable pub viewOffer : OfferView → ModelOffer
-viewOffer v =
-    record {
-      seq = v .seq;
-      address = v .address;
-      size = v .length;
-      class = v .class;
-      branch = v .branch;
-      atomic = v .atomic;
-      predicted-next = v .«predicted_next»;
-      payload = v .payload;
-    }
-
-unfoldable pub viewAnswer : Answer → ModelAnswer
-viewAnswer (a.Refused n) = refused n
-viewAnswer a.Done = done
-viewAnswer (a.Offered v) = offered (some (viewOffer v))
-viewAnswer a.NoOffer = offered none
-viewAnswer (a.Resolved t) = resolved (some t)
-viewAnswer a.NotResolved = resolved none
-viewAnswer (a.Invitation t) = invitation (some t)
-viewAnswer a.NoInvitation = invitation none
-
--- All of these unfold where a line says `unfolding shown`.
-unfoldable pub shown : Unit {0}
-unfolding viewEngine viewOffer viewAnswer
-shown = tt
+abbrev pub viewEngine : ScoreboardPipeline → State
+viewEngine e = engine.viewEngine (parts e)

@@ -1,11 +1,11 @@
 // Capacity, overlap, halt, fault, and both resets (ooo/scoreboard.rs, PipelineControl).
-use crate::Answer;
 use crate::Next;
 use crate::ScoreboardPipeline;
-use crate::done_or;
 use bank::Units;
 use board::Board;
 use config::Machine;
+use engine::Answer;
+use engine::done_or;
 use op::Text;
 ghost use mathlib.Core.Path.{_≡_};
 ghost use lib.ListN.{length};

@@ -14,8 +14,8 @@ use Rattle.laws.proofs.Shift.{pushed}
 use Rattle.capability.specs.declared.PipelineHazardKind.the-variants.{BranchFlush}
 use Rattle.model.specs.State.{Stats, Log as ModelLog, log-of, count-stall, count-stalls, stall-all, with-stats, with-traces}
 use Rattle.model.specs.Traces.{trace-of, redirect-to, FETCH, WRITE}
-use Rattle.traces.specs.declared.WaitForm.{WaitForm}
-use Rattle.traces.specs.declared.WaitForm.the-variants.{
+use Rattle.timeline.specs.declared.WaitForm.{WaitForm}
+use Rattle.timeline.specs.declared.WaitForm.the-variants.{
   Overwrites,
   MemoryOrder,
   Drains,
@@ -27,7 +27,7 @@ use Rattle.traces.specs.declared.WaitForm.the-variants.{
   AllBusy,
   RedirectTo,
 }
-use Rattle.traces.specs.Waits.{detail-of}
+use Rattle.timeline.specs.Waits.{detail-of}
 use Rattle.stalls.specs.declared.Trace.{Trace}
 use Rattle.stalls.specs.declared.TraceList.{TraceList}
 use Rattle.stalls.specs.declared.Log.{Log}

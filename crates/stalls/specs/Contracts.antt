@@ -4,8 +4,8 @@ use mathlib.Core.Path.{_≡_}
 use mathlib.Core.Bool.{Bool, true, false}
 use mathlib.Core.List.{List}
 use Rattle.model.specs.State.{Log as ModelLog}
-use Rattle.traces.specs.declared.WaitForm.{WaitForm}
-use Rattle.traces.specs.declared.WaitForm.the-variants.{
+use Rattle.timeline.specs.declared.WaitForm.{WaitForm}
+use Rattle.timeline.specs.declared.WaitForm.the-variants.{
   Overwrites,
   MemoryOrder,
   Drains,

@@ -21,8 +21,8 @@ use Rattle.model.specs.Timeline.{Row}
 use Rattle.model.specs.Traces.{Trace as Wait, trace-of, FETCH, ISSUE, READ, EXECUTE, WRITE}
 use Rattle.model.specs.State.{Stats, stats-of, Log as ModelLog, log-of}
 use Rattle.flight.specs.View.{Legend, carried-at}
-use Rattle.traces.specs.declared.WaitForm.{WaitForm}
-use Rattle.traces.specs.declared.WaitForm.the-variants.{
+use Rattle.timeline.specs.declared.WaitForm.{WaitForm}
+use Rattle.timeline.specs.declared.WaitForm.the-variants.{
   Overwrites,
   MemoryOrder,
   Drains,
@@ -34,7 +34,7 @@ use Rattle.traces.specs.declared.WaitForm.the-variants.{
   AllBusy,
   RedirectTo,
 }
-use Rattle.traces.specs.Waits.{detail-of}
+use Rattle.timeline.specs.Waits.{detail-of}
 use Rattle.stalls.specs.declared.Trace.{Trace}
 use Rattle.stalls.specs.declared.TraceList.{TraceList}
 use Rattle.stalls.specs.declared.Log.{Log}

@@ -1,7 +1,7 @@
 // Waits of a cycle: each is listed and counted (ooo/scoreboard.rs, stall; pipeline/timeline.rs, Trace).
 use capability::PipelineHazardKind;
 use capability::PipelineStats;
-use traces::WaitForm;
+use timeline::WaitForm;
 
 // The counters.
 pub mod stats;

@@ -22,8 +22,8 @@ use Rattle.model.specs.Registers.{name-of}
 use Rattle.model.specs.Traces.{Trace as Wait, waits-for, trace-of, EXECUTE, ISSUE}
 use Rattle.model.specs.Units.{FunctionalUnit, idle-unit, unit-at}
 use Rattle.model.specs.Issue.{producer-text, wait-detail, wait-trace}
-use Rattle.traces.specs.declared.WaitForm.the-variants.{WaitsFor, WaitsForOlder}
-use Rattle.traces.specs.Waits.{detail-of}
+use Rattle.timeline.specs.declared.WaitForm.the-variants.{WaitsFor, WaitsForOlder}
+use Rattle.timeline.specs.Waits.{detail-of}
 use Rattle.registers.specs.declared.Owed.{Owed}
 use Rattle.registers.specs.View.{viewOwed, viewWaits}
 use Rattle.flight.specs.View.{Legend, carried-at, op-with}

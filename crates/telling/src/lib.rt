@@ -1,7 +1,7 @@
 // The waits that units tell: of a unit whose source is owed.
 use stalls::Log;
 use stalls::Trace;
-use traces::WaitForm;
+use timeline::WaitForm;
 use units::Unit;
 use units::waits;
 ghost use Prim.Native.Nat.{_+_, _≤_};

@@ -34,6 +34,20 @@ ghost use Rattle.timeline.specs.View.{
   ShowsText,
 };
 
+// What a wait of a cycle is for (`Trace`). WaitsForOlder is WaitsFor without a producer.
+pub enum WaitForm {
+    Overwrites,
+    MemoryOrder,
+    Drains,
+    WaitsFor,
+    WaitsForOlder,
+    BehindBranch,
+    BehindSystem,
+    StillWrites,
+    AllBusy,
+    RedirectTo,
+}
+
 // What moves each cycle: the first cycle shown, the cells held, the byte of the oldest.
 pub struct Track {
     pub first_cycle: u64,

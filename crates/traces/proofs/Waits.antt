@@ -9,9 +9,9 @@ use Rattle.op.proofs.FirstWord.{first-words}
 use Rattle.model.specs.Op.{first-word}
 use Rattle.model.specs.Traces.{render}
 use Rattle.traces.specs.declared.texts.Written.{Written}
-use Rattle.traces.specs.declared.WaitForm.{WaitForm}
+use Rattle.timeline.specs.declared.WaitForm.{WaitForm}
 use Rattle.traces.specs.Texts.{Wrote}
-use Rattle.traces.specs.Waits.{detail-of}
+use Rattle.timeline.specs.Waits.{detail-of}
 use Rattle.traces.proofs.Written.{wrote-as}
 
 -- The first word, with "?" lent.

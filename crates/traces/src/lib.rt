@@ -2,6 +2,7 @@
 use texts::Written;
 use texts::write_hex;
 use texts::write_three;
+use timeline::WaitForm;
 
 // Texts written to a lent buffer.
 pub mod texts;
@@ -10,21 +11,7 @@ ghost use mathlib.Core.Option.{some};
 ghost use Rattle.model.specs.Op.{first-word};
 ghost use Rattle.model.specs.Traces.{render, overwrites, memory-order, waits-for};
 ghost use Rattle.traces.specs.Texts.{Wrote};
-ghost use Rattle.traces.specs.Waits.{detail-of};
-
-// What a wait is for. WaitsForOlder is WaitsFor without a producer.
-pub enum WaitForm {
-    Overwrites,
-    MemoryOrder,
-    Drains,
-    WaitsFor,
-    WaitsForOlder,
-    BehindBranch,
-    BehindSystem,
-    StillWrites,
-    AllBusy,
-    RedirectTo,
-}
+ghost use Rattle.timeline.specs.Waits.{detail-of};
 
 fn write_overwrites(mine: &[u8], register: &[u8], reader: &[u8], out: &mut [u8]) -> Written
     ensures { λ r. ⌜ Wrote (some (render (overwrites (now (mine .entry)) (now (register .entry)) (now (reader .entry))))) (now (out .entry)) (now (out .exit)) r ⌝ }

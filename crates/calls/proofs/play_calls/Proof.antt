@@ -1,11 +1,11 @@
 -- The engine, the cell memory and the answers are those of the calls passed.
-use mathlib.Core.Path.{_≡_, sym, subst, _∙_}
+use mathlib.Core.Path.{_≡_, sym, subst, ap, _∙_}
 use mathlib.Core.Bool.{true}
 use mathlib.Core.Logic.{⊎-elim}
 use Prim.Native.Nat.{_-_, _≤_}
 use native.Mathlib.Omega.{arith}
 use lib.ListN.{length}
-use Rattle.scoreboard.specs.View.{viewEngine}
+use Rattle.scoreboard.specs.View.{parts, viewEngine}
 use Rattle.scoreboard.specs.Valid.{Valid}
 use Rattle.decoding.specs.Bytes.{byte-at}
 use Rattle.decoding.specs.Calls.{size-at, call-at, formed-at}
@@ -29,7 +29,7 @@ use Rattle.calls.proofs.play_calls.Statement.{statement}
 use Rattle.calls.proofs.play_calls.Tie as tie
 
 abbrev Inv-loop : tie.InvT-loop
-Inv-loop list cells₀ out₀ e₀ at₀ b₀ cells out e at b = Played list 555 17 (viewEngine e₀) cells₀ out₀ e at b cells out
+Inv-loop list cells₀ out₀ e₀ at₀ b₀ cells out e at b = Played list 555 17 (viewEngine e₀) cells₀ out₀ (parts e) at b cells out
 
 abbrev μ-loop : tie.MeasureT-loop
 μ-loop list cells₀ out₀ e₀ at₀ b₀ cells out e at b = length list - at
@@ -49,13 +49,13 @@ play-cycles-requires c κs = let y = c .before .before .before .before .before .
 reached : (j : tie.Joined1 Inv-loop μ-loop)
     → let s = start (j .before .before) .args in
     let x = j .if1 in
-    Played (s .list .now) 555 17 (viewEngine (s .engine)) (s .cells .now) (s .out .now) (x .e) (x .at) (x .b) (x .cells) (x .out)
+    Played (s .list .now) 555 17 (viewEngine (s .engine)) (s .cells .now) (s .out .now) (parts (x .e)) (x .at) (x .b) (x .cells) (x .out)
     × (j .before .before .before .loop .at ≤ x .at)
 reached j =
     let y = j .before .before .before .loop .inv in
     ⊎-elim
-    (λ w. (played-same (played-on y (w .3 .ensures .0)) (w .9) (w .10) (w .11) (w .12) (w .13), omega (arith, w .3 .ensures .1, w .12)))
-    (λ w. (played-same y (w .1) (w .2) (w .3) (w .4) (w .5), omega (arith, w .4)))
+    (λ w. (played-same (played-on y (w .3 .ensures .0)) (w .9) (w .10) (ap parts (w .11)) (w .12) (w .13), omega (arith, w .3 .ensures .1, w .12)))
+    (λ w. (played-same y (w .1) (w .2) (ap parts (w .3)) (w .4) (w .5), omega (arith, w .4)))
     (j .if1 .came)
 
 -- ── One call ────────────────────────────────────────────────────────────────
@@ -88,18 +88,18 @@ playable c h =
 -- What either leaves.
 step : (c : tie.Joined3 Inv-loop μ-loop)
     → let j = c .before .before .before .before .before .before .before .before in
-    Step (call-at (start (j .before .before) .args .list .now) (j .if1 .at)) (j .if1 .b) (j .if1 .e) (j .if1 .cells) (c .before .before .before .before .fill .last .0) (c .if3 .e) (c .if3 .cells)
+    Step (call-at (start (j .before .before) .args .list .now) (j .if1 .at)) (j .if1 .b) (parts (j .if1 .e)) (j .if1 .cells) (c .before .before .before .before .fill .last .0) (parts (c .if3 .e)) (c .if3 .cells)
     (c .if3 .out)
 unfolding byte-at
 step c =
     ⊎-elim
     (λ w.
     record {
-      leaves = subst (Leaves _ _) (sym (w .10)) (w .3 .ensures .0);
+      leaves = subst (Leaves _ _) (sym (ap parts (w .10))) (w .3 .ensures .0);
       memory = w .8 ∙ w .3 .ensures .1 .0;
       laid = w .9 ∙ w .3 .ensures .1 .1;
     })
-    (λ w. step-shown (shown-from _ _ (w .0 .left)) (reached (c .before .before .before .before .before .before .before .before) .0 .valid) (w .8) (w .6) (w .7 ∙ w .3 .ensures))
+    (λ w. step-shown (shown-from _ _ (w .0 .left)) (reached (c .before .before .before .before .before .before .before .before) .0 .valid) (ap parts (w .8)) (w .6) (w .7 ∙ w .3 .ensures))
     (c .if3 .came)
 
 play-driven-requires : tie.Need-play-driven-requires Inv-loop μ-loop

@@ -16,8 +16,8 @@ use Rattle.board.specs.Contracts.{queue-places, Names}
 use Rattle.board.proofs.Parts.{state-by, alike-self, looks-kept}
 use Rattle.board.proofs.Knowing.{knows-kept}
 use Rattle.board.proofs.Vacancy.{empty-stepped}
-use Rattle.board.proofs.Counting.{more-left}
-use Rattle.cycle.proofs.Halves.{stepped-knows, told-names, same-apart, read-traces}
+use Rattle.board.proofs.Counting.{more-left, same-apart}
+use Rattle.cycle.proofs.Halves.{stepped-knows, told-names, read-traces}
 use borrow.Author.Needs.{needs}
 use Rattle.cycle.proofs.stepped.Statement.{statement}
 use Rattle.cycle.proofs.stepped.Tie as tie

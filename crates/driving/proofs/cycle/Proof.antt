@@ -3,9 +3,9 @@ use Rattle.op.specs.View.{viewMaybeNumber}
 use Rattle.tracks.specs.View.{tracks-of}
 use Rattle.slots.specs.View.{units-of}
 use Rattle.board.specs.View.{board-of}
-use Rattle.scoreboard.specs.declared.ScoreboardPipeline.{ScoreboardPipeline}
-use Rattle.scoreboard.specs.Advance.{engine-of}
-use Rattle.scoreboard.proofs.Loops.{restable}
+use Rattle.engine.specs.Engine.{Engine}
+use Rattle.advancing.specs.Advance.{engine-of}
+use Rattle.advancing.proofs.Resting.{restable}
 use Rattle.driving.proofs.Cycles.{cycled}
 use borrow.Author.Needs.{needs}
 use Rattle.driving.proofs.cycle.Statement.{statement}
@@ -15,7 +15,7 @@ abbrev start : tie.After-started → tie.Start
 start d = d .before .before .before .before .before .before
 
 -- An engine with the parts that came in.
-abbrev whole : tie.Start → ScoreboardPipeline → ScoreboardPipeline
+abbrev whole : tie.Start → Engine → Engine
 whole s e =
     let a = s .args in
     engine-of (board-of (a .board) (units-of (a .us .now) (a .ss .now) (a .n))) (a .window) (tracks-of (a .ts .now) (a .fs .now)) (a .machine) (a .known) (a .held) e

@@ -11,13 +11,14 @@ use Rattle.tracks.specs.View.{tracks-of}
 use Rattle.slots.specs.View.{units-of}
 use Rattle.board.specs.declared.Board.{Board}
 use Rattle.board.specs.View.{board-of}
-use Rattle.scoreboard.specs.declared.ScoreboardPipeline.{ScoreboardPipeline}
-use Rattle.scoreboard.specs.View.{viewEngine}
-use Rattle.scoreboard.specs.Valid.{Valid}
-use Rattle.scoreboard.specs.Taking.{given, Holds}
-use Rattle.scoreboard.proofs.Fetches.{some-number, no-number, operation-fine, yes-of-not, refused-first, second, memory-stays}
-use Rattle.scoreboard.proofs.Spreading.{by-own-counts}
-use Rattle.scoreboard.proofs.Loops.{holding}
+use Rattle.engine.specs.Engine.{Engine}
+use Rattle.engine.specs.View.{viewEngine}
+use Rattle.engine.specs.Valid.{Valid}
+use Rattle.fetching.specs.Taking.{given, Holds}
+use Rattle.checks.proofs.Passing.{some-number, no-number, yes-of-not}
+use Rattle.fetching.proofs.Fetches.{operation-fine, refused-first, second, memory-stays}
+use Rattle.fetching.proofs.Laid.{by-own-counts}
+use Rattle.fetching.proofs.Holding.{holding}
 use Rattle.driving.specs.Fetching.{over}
 use Rattle.driving.proofs.Fetching.{refusing, taking}
 use borrow.Author.Needs.{needs}
@@ -31,7 +32,7 @@ abbrev board : tie.Start → Board
 board s = board-of (s .args .board) (units-of (s .args .us .now) (s .args .ss .now) (s .args .n))
 
 -- An engine with the parts that came in.
-abbrev whole : tie.Start → ScoreboardPipeline → ScoreboardPipeline
+abbrev whole : tie.Start → Engine → Engine
 whole s e = over (board s) (s .args .window) (tracks-of (s .args .ts .now) (s .args .fs .now)) (s .args .machine) (s .args .table) e
 
 abbrev begin : tie.Then2 → tie.Start
@@ -55,7 +56,7 @@ resolve-requires c κs =
     (s .pre .1 .1 .valid .parts .table, (f .0, f .1))
 
 -- Its names would be too many.
-too-many-names : (c : tie.Then2) (e : ScoreboardPipeline) → Valid (whole (begin c) e) → (lent : ℕ)
+too-many-names : (c : tie.Then2) (e : Engine) → Valid (whole (begin c) e) → (lent : ℕ)
     → refusal (viewEngine (whole (begin c) e)) (fetch (viewOp (begin c .args .op)) lent) ≡ some 10
 too-many-names c e v lent =
     let x = c .before .before in
@@ -80,7 +81,7 @@ abbrev at-start : tie.After-latency → tie.Start
 at-start l = start (at-resolve l .before .before)
 
 -- The engine holds the numbers that its table gives.
-holds : (l : tie.After-latency) (e : ScoreboardPipeline) → Valid (whole (at-start l) e)
+holds : (l : tie.After-latency) (e : Engine) → Valid (whole (at-start l) e)
     → Holds
     (given (board (at-start l)) (at-start l .args .window) (tracks-of (at-start l .args .ts .now) (at-start l .args .fs .now))
     (at-resolve l .resolve .result .sources) (at-resolve l .resolve .result .destinations) (at-start l .args .machine .«instruction_bytes»)

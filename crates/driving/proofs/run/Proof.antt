@@ -21,13 +21,14 @@ use Rattle.tracks.specs.View.{tracks-of, TracksSized}
 use Rattle.slots.specs.View.{units-of, Sized}
 use Rattle.board.specs.declared.Board.{Board}
 use Rattle.board.specs.View.{board-of}
-use Rattle.scoreboard.specs.declared.ScoreboardPipeline.{ScoreboardPipeline}
-use Rattle.scoreboard.specs.View.{viewEngine}
-use Rattle.scoreboard.specs.Valid.{Valid}
-use Rattle.scoreboard.specs.Advance.{engine-of}
-use Rattle.scoreboard.proofs.Does.{same-size}
-use Rattle.scoreboard.proofs.Spreading.{board-back, board-made}
-use Rattle.scoreboard.proofs.Loops.{slot-there}
+use Rattle.engine.specs.Engine.{Engine}
+use Rattle.engine.specs.View.{viewEngine}
+use Rattle.engine.specs.Valid.{Valid}
+use Rattle.advancing.specs.Advance.{engine-of}
+use Rattle.engine.proofs.Does.{same-size}
+use Rattle.engine.proofs.Spreading.{board-back, board-made}
+use Rattle.fetching.proofs.Holding.{slot-there}
+use Rattle.scoreboard.specs.View.{parts, pipeline}
 use Rattle.driving.specs.declared.Going.{Going}
 use Rattle.driving.specs.Runs.{viewRun}
 use Rattle.driving.proofs.Cycles.{tells}
@@ -50,11 +51,11 @@ use Rattle.driving.proofs.run.Statement.{statement}
 use Rattle.driving.proofs.run.Tie as tie
 
 -- The engine of its parts.
-abbrev whole : Board → Window → Tracks → DecodedPool → Machine → RegisterTable → TextPool → RowTexts → ScoreboardPipeline
+abbrev whole : Board → Window → Tracks → DecodedPool → Machine → RegisterTable → TextPool → RowTexts → Engine
 whole b w ts ds m t xs rs = record { board = b; window = w; tracks = ts; decoded = ds; machine = m; table = t; texts = xs; rows = rs }
 
-abbrev on : ScoreboardPipeline → ℕ → ℕ → ℕ → ℕ → Going
-on e at lines stands number = record { engine = e; at = at; lines = lines; stands = stands; number = number }
+abbrev on : Engine → ℕ → ℕ → ℕ → ℕ → Going
+on e at lines stands number = record { engine = pipeline e; at = at; lines = lines; stands = stands; number = number }
 
 abbrev Inv-loop : tie.InvT-loop
 Inv-loop input cells₀ n us₀ ss₀ ts₀ fs₀ board₀ window₀ decoded₀ machine table₀ texts₀ rows₀ at₀ lines₀ stands₀ number₀ fuel₀ cells us ss ts fs board window decoded table texts rows at lines stands number fuel =
@@ -109,7 +110,7 @@ at-fetch k = k .before .before .before .before .before .before
 
 -- ── The engine there ────────────────────────────────────────────────────────
 
-abbrev engine : tie.At-loop Inv-loop μ-loop → ScoreboardPipeline
+abbrev engine : tie.At-loop Inv-loop μ-loop → Engine
 engine l =
     let e = start l .args .engine in
     let v = l .loop in
@@ -117,7 +118,7 @@ engine l =
     (v .texts) (v .rows)
 
 -- After the cycle.
-abbrev advanced : tie.After-cycle Inv-loop μ-loop → ScoreboardPipeline
+abbrev advanced : tie.After-cycle Inv-loop μ-loop → Engine
 advanced y =
     let l = in-cycle y .before in
     let e = start l .args .engine in
@@ -145,14 +146,14 @@ mul-fuel c = omega (arith, first c .pre .1)
 
 -- The engine laid out is the one that came in.
 laid-out : (r : tie.After-rows Inv-loop μ-loop)
-    → let e = first r .args .engine in
+    → let e = parts (first r .args .engine) in
     let u = at-units (at-tracks (at-of r)) .spread .last .1 in
     let t = at-tracks (at-of r) .spread2 .last .1 in
     whole (board-of (at-of r .of .result) (units-of (u .0) (u .1 .0) (e .board .units .len))) (e .window) (tracks-of (t .0) (t .1 .0)) (e .decoded)
     (e .machine) (e .table) (e .texts) (e .rows)
     ≡ e
 laid-out r =
-    let e = first r .args .engine in
+    let e = parts (first r .args .engine) in
     ap₂ (λ b t. whole b (e .window) t (e .decoded) (e .machine) (e .table) (e .texts) (e .rows))
     (board-back (at-of r .of .ensures) (at-units (at-tracks (at-of r)) .spread .ensures)) (at-tracks (at-of r) .spread2 .ensures .is)
 

@@ -8,9 +8,8 @@ use Rattle.slots.specs.View.{units-of, Sized}
 use Rattle.board.specs.declared.Sequencer.{Sequencer}
 use Rattle.board.specs.declared.Board.{Board}
 use Rattle.board.specs.View.{board-of, BoardOk}
-use Rattle.scoreboard.specs.declared.ScoreboardPipeline.{ScoreboardPipeline}
-use Rattle.scoreboard.specs.Valid.{Valid}
-use Rattle.scoreboard.specs.Calls.{with-board}
+use Rattle.engine.specs.Engine.{Engine, with-board}
+use Rattle.engine.specs.Valid.{Valid}
 use Rattle.driving.proofs.Cycles.{Comes, tells, begins, begins-not, settled}
 use Rattle.driving.proofs.started.Statement.{statement}
 use Rattle.driving.proofs.started.Tie as tie
@@ -22,7 +21,7 @@ whole s = board-of (s .args .board) (units-of (s .args .us .now) (s .args .ss .n
 record Begun (s : tie.Start) (us : List (List ℕ)) (ss : List ℕ) (b : Sequencer) : Type 0 where
   size : Sized us ss
   ok : BoardOk (board-of b (units-of us ss (s .args .n)))
-  comes : (e : ScoreboardPipeline) → Valid (with-board (whole s) e)
+  comes : (e : Engine) → Valid (with-board (whole s) e)
       → Comes (with-board (whole s) e) start (with-board (board-of b (units-of us ss (s .args .n))) e)
 
 begun-as : (s : tie.Start) {us vs : List (List ℕ)} {ss qs : List ℕ} {b d : Sequencer} → us ≡ vs → ss ≡ qs → b ≡ d → Begun s vs qs d → Begun s us ss b

@@ -6,6 +6,7 @@ use native.Mathlib.Omega.{arith}
 use lib.ListN.{length}
 use Rattle.board.specs.View.{viewBoard}
 use Rattle.scoreboard.specs.View.{viewEngine}
+use Rattle.engine.specs.View.{viewEngine as engine-view}
 use Rattle.stalls.specs.View.{viewStats}
 use Rattle.traces.proofs.Written.{laid-next}
 use Rattle.pages.proofs.Laid.{laid-as, laid-empty, laid-most}
@@ -57,7 +58,7 @@ same-length-2 : tie.Need-same-length-2
 same-length-2 c = search needs
 
 returns-3 : tie.Need-returns-3
-unfolding viewEngine viewBoard
+unfolding engine-view viewBoard
 returns-3 c =
     let t = c .before .before in
     let r = t .before .before .before .before in

@@ -9,7 +9,7 @@ use Rattle.registers.specs.View.{viewClaims}
 use Rattle.config.specs.declared.Machine.{Machine}
 use Rattle.flight.specs.declared.Queued.{Queued}
 use Rattle.flight.specs.View.{read, written, viewOperands, viewQueued, entries}
-use Rattle.traces.specs.declared.WaitForm.{WaitForm}
+use Rattle.timeline.specs.declared.WaitForm.{WaitForm}
 use Rattle.stalls.specs.Contracts.{names-register}
 use Rattle.bank.specs.declared.Units.{Units}
 use Rattle.bank.specs.View.{places}

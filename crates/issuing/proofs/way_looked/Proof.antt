@@ -13,7 +13,7 @@ use Rattle.registers.specs.View.{viewMaybeIndex, viewClaims}
 use Rattle.registers.proofs.Owing.{claimed-some, claimed-none}
 use Rattle.flight.specs.declared.Queued.{Queued}
 use Rattle.flight.specs.View.{Legend, written}
-use Rattle.traces.specs.declared.WaitForm.the-variants.{StillWrites, AllBusy}
+use Rattle.timeline.specs.declared.WaitForm.the-variants.{StillWrites, AllBusy}
 use Rattle.bank.specs.View.{viewUnits}
 use Rattle.slots.specs.View.{units-of}
 use Rattle.board.specs.declared.Board.{Board}

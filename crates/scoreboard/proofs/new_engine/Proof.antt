@@ -20,9 +20,9 @@ use Rattle.bank.specs.View.{places}
 use Rattle.board.specs.View.{Frame, viewBoard}
 use Rattle.board.specs.Contracts.{queue-places, taken-places, Names}
 use Rattle.board.proofs.Parts.{state-by}
-use Rattle.scoreboard.specs.View.{viewEngine}
-use Rattle.scoreboard.specs.Answers.{new-state}
-use Rattle.scoreboard.proofs.Dropping.{empty-looks}
+use Rattle.engine.specs.View.{viewEngine}
+use Rattle.scoreboard.specs.Calls.{new-state}
+use Rattle.engine.proofs.Dropping.{empty-looks}
 use Rattle.scoreboard.proofs.Fresh.{built-places, built-knows, empty-apart}
 use borrow.Author.Needs.{needs}
 use Rattle.scoreboard.proofs.new_engine.Statement.{statement}

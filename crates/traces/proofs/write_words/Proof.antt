@@ -6,9 +6,9 @@ use Prim.Native.Nat.{ℕ}
 use Rattle.laws.specs.Texts.{bytes, utf8}
 use Rattle.model.specs.Traces.{render}
 use Rattle.traces.specs.declared.texts.Written.{Written}
-use Rattle.traces.specs.declared.WaitForm.{WaitForm}
+use Rattle.timeline.specs.declared.WaitForm.{WaitForm}
 use Rattle.traces.specs.Texts.{Wrote}
-use Rattle.traces.specs.Waits.{detail-of}
+use Rattle.timeline.specs.Waits.{detail-of}
 use Rattle.traces.proofs.Waits.{wrote-form}
 use borrow.Author.Needs.{needs}
 use Rattle.traces.proofs.write_words.Statement.{statement}

@@ -1,7 +1,7 @@
 use mathlib.Core.Path.{refl}
 use Rattle.stalls.specs.View.{viewLog}
 use Rattle.board.specs.View.{viewBoard}
-use Rattle.scoreboard.specs.View.{viewEngine}
+use Rattle.engine.specs.View.{viewEngine}
 use Rattle.views.proofs.stats.Statement.{statement}
 use Rattle.views.proofs.stats.Tie as tie
 

@@ -1,7 +1,7 @@
 use mathlib.Core.Path.{refl}
 use Rattle.model.specs.Views.{status-view}
 use Rattle.board.specs.View.{viewBoard}
-use Rattle.scoreboard.specs.View.{viewEngine}
+use Rattle.engine.specs.View.{viewEngine}
 use Rattle.views.specs.View.{viewStatus}
 use Rattle.views.proofs.status.Statement.{statement}
 use Rattle.views.proofs.status.Tie as tie

@@ -3,7 +3,7 @@ use mathlib.Core.Path.{ap}
 use native.Mathlib.Omega.{arith}
 use lib.ListN.{length}
 use Rattle.traces.proofs.Written.{laid-next}
-use Rattle.scoreboard.specs.View.{viewAnswer}
+use Rattle.engine.specs.View.{viewAnswer}
 use Rattle.answers.proofs.Laid.{laid-of, none-there}
 use Rattle.answers.specs.Bytes.{number-bytes, little-bytes, optional, offer-bytes}
 use Rattle.answers.specs.Encode.{encode}

@@ -2,7 +2,7 @@
 use mathlib.Core.Path.{sym}
 use native.Mathlib.Omega.{arith}
 use Rattle.traces.proofs.Written.{laid-next}
-use Rattle.scoreboard.specs.View.{viewOffer}
+use Rattle.engine.specs.View.{viewOffer}
 use Rattle.answers.proofs.Laid.{laid-of, class-below}
 use Rattle.answers.specs.Bytes.{byte-of, number-bytes, little-bytes, offer-bytes}
 use borrow.Author.Needs.{needs}

@@ -22,15 +22,17 @@ use Rattle.slots.specs.View.{units-of}
 use Rattle.tracks.specs.View.{tracks-of}
 use Rattle.board.specs.declared.Sequencer.{Sequencer}
 use Rattle.board.specs.View.{board-of}
-use Rattle.scoreboard.specs.declared.ScoreboardPipeline.{ScoreboardPipeline}
-use Rattle.scoreboard.specs.declared.Next.{Next}
-use Rattle.scoreboard.specs.View.{viewEngine}
-use Rattle.scoreboard.specs.Valid.{Valid}
-use Rattle.scoreboard.specs.Calls.{Does, with-board}
-use Rattle.scoreboard.specs.Advance.{engine-of}
-use Rattle.scoreboard.specs.Taking.{Given, given, Holds}
-use Rattle.scoreboard.proofs.Loops.{does-no-start, does-start, restable, holding, does-fetch, slot-there}
-use Rattle.scoreboard.proofs.Spreading.{board-back}
+use Rattle.engine.specs.Engine.{Engine, Next, with-board}
+use Rattle.engine.specs.View.{viewEngine}
+use Rattle.engine.specs.Valid.{Valid}
+use Rattle.engine.specs.Calls.{Does}
+use Rattle.advancing.specs.Advance.{engine-of}
+use Rattle.fetching.specs.Taking.{Given, given, Holds}
+use Rattle.offering.proofs.Results.{does-no-start, does-start}
+use Rattle.advancing.proofs.Resting.{restable}
+use Rattle.fetching.proofs.Holding.{holding, does-fetch, slot-there}
+use Rattle.engine.proofs.Spreading.{board-back}
+use Rattle.scoreboard.specs.View.{parts}
 use Rattle.decoding.specs.Bytes.{byte-at}
 use Rattle.decoding.specs.Calls.{size-at, formed-at}
 use Rattle.decoding.proofs.Script.{formed-is}
@@ -62,7 +64,7 @@ use Rattle.calls.proofs.cycles.play_cycles.Statement.{statement}
 use Rattle.calls.proofs.cycles.play_cycles.Tie as tie
 
 abbrev whole : Sequencer → List (List ℕ) → List ℕ → ℕ → Window → List (List ℕ) → List ℕ → DecodedPool → Machine → List Name → ℕ → ℕ → TextPool → RowTexts
-    → ScoreboardPipeline
+    → Engine
 whole b us ss n w ts fs ds m names known held xs rs =
     record {
       board = board-of b (units-of us ss n);
@@ -91,15 +93,15 @@ abbrev start : tie.After-rows Inv-loop μ-loop → tie.Start Inv-loop μ-loop
 start c = c .before .before .before .before .before .before .before .before .before .before .before .before .before .before .before .before .before .before .before .before .before .before .before .before .before .before .before .before .before .before .before .before .before .before
 
 -- The engine that is laid out.
-abbrev first : tie.After-rows Inv-loop μ-loop → ScoreboardPipeline
+abbrev first : tie.After-rows Inv-loop μ-loop → Engine
 first c =
-    let e = start c .args .engine in
+    let e = parts (start c .args .engine) in
     with-both
     (board-of (c .before .before .before .before .before .before .before .before .before .before .before .before .before .before .before .before .before .of .result) (units-of (c .before .before .before .before .before .before .before .before .before .before .before .before .before .before .before .before .before .before .before .before .before .before .before .before .before .before .spread .last .1 .0) (c .before .before .before .before .before .before .before .before .before .before .before .before .before .before .before .before .before .before .before .before .before .before .before .before .before .before .spread .last .1 .1 .0) (e .board .units .len)))
     (tracks-of (c .before .before .before .before .before .before .before .before .before .before .before .before .before .before .before .before .before .before .before .before .spread2 .last .1 .0) (c .before .before .before .before .before .before .before .before .before .before .before .before .before .before .before .before .before .before .before .before .spread2 .last .1 .1 .0)) e
 
-first-is : (c : tie.After-rows Inv-loop μ-loop) → first c ≡ start c .args .engine
-first-is c = both-is (start c .args .engine) (board-back (c .before .before .before .before .before .before .before .before .before .before .before .before .before .before .before .before .before .of .ensures) (c .before .before .before .before .before .before .before .before .before .before .before .before .before .before .before .before .before .before .before .before .before .before .before .before .before .before .spread .ensures)) (c .before .before .before .before .before .before .before .before .before .before .before .before .before .before .before .before .before .before .before .before .spread2 .ensures .is)
+first-is : (c : tie.After-rows Inv-loop μ-loop) → first c ≡ parts (start c .args .engine)
+first-is c = both-is (parts (start c .args .engine)) (board-back (c .before .before .before .before .before .before .before .before .before .before .before .before .before .before .before .before .before .of .ensures) (c .before .before .before .before .before .before .before .before .before .before .before .before .before .before .before .before .before .before .before .before .before .before .before .before .before .before .spread .ensures)) (c .before .before .before .before .before .before .before .before .before .before .before .before .before .before .before .before .before .before .before .before .spread2 .ensures .is)
 
 loop-holds : tie.Need-loop-holds Inv-loop μ-loop
 loop-holds c = (
@@ -113,7 +115,7 @@ abbrev origin : tie.At-loop Inv-loop μ-loop → tie.Start Inv-loop μ-loop
 origin a = start (a .before)
 
 -- The engine of a turn.
-abbrev engine : tie.At-loop Inv-loop μ-loop → ScoreboardPipeline
+abbrev engine : tie.At-loop Inv-loop μ-loop → Engine
 engine a =
     let e = origin a .args .engine in
     let x = a .loop in

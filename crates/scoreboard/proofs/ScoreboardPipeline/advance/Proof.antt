@@ -4,11 +4,12 @@ use lib.ListN.{length}
 use Rattle.model.specs.Calls.{advance, memory-after}
 use Rattle.op.specs.View.{viewMaybeNumber}
 use Rattle.timeline.specs.declared.Window.{Window}
-use Rattle.scoreboard.specs.View.{viewEngine}
-use Rattle.scoreboard.specs.Advance.{by-value, Restable, Rests, RestWrites}
-use Rattle.scoreboard.proofs.Does.{same-size}
-use Rattle.scoreboard.proofs.Loops.{restable, does-advance}
-use Rattle.scoreboard.proofs.Spreading.{full-window}
+use Rattle.engine.specs.View.{viewEngine}
+use Rattle.advancing.specs.Advance.{by-value, Restable, Rests, RestWrites}
+use Rattle.engine.proofs.Does.{same-size}
+use Rattle.advancing.proofs.Resting.{restable, does-advance}
+use Rattle.engine.proofs.Spreading.{full-window}
+use Rattle.scoreboard.specs.View.{parts}
 use Rattle.scoreboard.proofs.ScoreboardPipeline.advance.Statement.{statement}
 use Rattle.scoreboard.proofs.ScoreboardPipeline.advance.Tie as tie
 
@@ -18,19 +19,19 @@ rest-of-requires c κs = restable (c .before .before .before .before .before .be
 rest-of-requires-2 : tie.Need-rest-of-requires-2
 rest-of-requires-2 c κs =
     let s = c .before .before .before .before .before .before in
-    let e = s .args .self in
+    let e = parts (s .args .self) in
     subst (λ (w : Window). Restable (e .board) w (e .tracks) (e .machine)) (sym (full-window (s .pre .parts .window) (c .before .if1 .left))) (restable (s .pre))
 
 -- The cells after either call.
 cells-left : (j : tie.Joined1)
     → j .if1 .cells
-    ≡ memory-after (viewEngine (j .before .before .before .before .before .args .self))
+    ≡ memory-after (viewEngine (parts (j .before .before .before .before .before .args .self)))
     (advance (viewMaybeNumber (j .before .before .before .before .before .args .redirect))
     (length (j .before .before .before .before .before .args .cells .now)))
     (j .before .before .before .before .before .args .cells .now)
 cells-left j =
     let s = j .before .before .before .before .before in
-    let e = s .args .self in
+    let e = parts (s .args .self) in
     let t = viewMaybeNumber (s .args .redirect) in
     let m = s .args .cells .now in
     ⊎-elim
@@ -46,13 +47,13 @@ same-length c =
     let j = c .before .before .before .before in
     let s = j .before .before .before .before .before in
     let m = s .args .cells .now in
-    same-size (viewEngine (s .args .self)) (advance (viewMaybeNumber (s .args .redirect)) (length m)) m (cells-left j)
+    same-size (viewEngine (parts (s .args .self))) (advance (viewMaybeNumber (s .args .redirect)) (length m)) m (cells-left j)
 
 returns : tie.Need-returns
 returns c =
     let j = c .before .before .before .before in
     let s = j .before .before .before .before .before in
-    let e = s .args .self in
+    let e = parts (s .args .self) in
     let t = viewMaybeNumber (s .args .redirect) in
     let n = length (s .args .cells .now) in (
       ⊎-elim

@@ -8,11 +8,12 @@ use Rattle.model.specs.State.{State}
 use Rattle.model.specs.Write.{stopped, fault}
 use Rattle.model.specs.Calls.{checks, refusal, run, reply}
 use Rattle.board.specs.View.{viewBoard}
-use Rattle.scoreboard.specs.View.{frame-of, viewEngine}
-use Rattle.scoreboard.proofs.Fits.{short-text}
-use Rattle.scoreboard.proofs.Fetches.{row-passes, no-number}
-use Rattle.scoreboard.proofs.Boards.{settled-done, settled-refused}
+use Rattle.engine.specs.View.{frame-of, viewEngine}
+use Rattle.engine.proofs.Fits.{short-text}
+use Rattle.checks.proofs.Passing.{row-passes, no-number}
+use Rattle.engine.proofs.Boards.{settled-done, settled-refused}
 use Rattle.scoreboard.proofs.Stopping.{stopped-engine, stopped-is, stopped-parts}
+use Rattle.scoreboard.specs.View.{parts}
 use Rattle.scoreboard.proofs.ScoreboardPipeline.fault.Statement.{statement}
 use Rattle.scoreboard.proofs.ScoreboardPipeline.fault.Tie as tie
 
@@ -36,16 +37,16 @@ returns c =
     let j = c .before in
     let d = j .before in
     let s = d .before in
-    let e = s .args .self in
+    let e = parts (s .args .self) in
     let p = s .pre .parts in
     ⊎-elim
     (λ w.
     let after = w .2 .ensures in
-    settled-done (s .pre) (d .fault .ensures) (c .done-or .ensures) (stopped-engine (w .2 .result) e) (w .0 .taken) (w .4) (λ m. refl)
+    settled-done (s .pre) (d .fault .ensures) (c .done-or .ensures) (stopped-engine (w .2 .result) e) (w .0 .taken) (ap parts (w .4)) (λ m. refl)
     (stopped-is p after)
     (stopped-parts p after
     (ap (λ (x : State). x .front .halted || x .front .faulted) (after .is (frame-of e)) ∙ or-yes-second (e .board .front .halted) refl)))
-    (λ w. settled-refused (s .pre) (d .fault .ensures) (c .done-or .ensures) (w .0 .left) (w .1))
+    (λ w. settled-refused (s .pre) (d .fault .ensures) (c .done-or .ensures) (w .0 .left) (ap parts (w .1)))
     (j .if1 .came)
 
 pub fault-spec : {M : Type 1} → statement M

@@ -7,25 +7,26 @@ use borrow.Author.Needs.{needs}
 use Rattle.model.specs.Calls.{fetch, memory-after}
 use Rattle.op.specs.View.{viewOp}
 use Rattle.timeline.specs.declared.Window.{Window}
-use Rattle.scoreboard.specs.View.{viewEngine}
-use Rattle.scoreboard.specs.Calls.{Does}
-use Rattle.scoreboard.specs.Taking.{Admissible, Admits, AdmitWrites}
-use Rattle.scoreboard.proofs.Does.{same-size}
-use Rattle.scoreboard.proofs.Loops.{slot-there}
-use Rattle.scoreboard.proofs.Spreading.{full-window}
-use Rattle.scoreboard.proofs.Admitting.{does-admit, all-four, after-fetch}
+use Rattle.engine.specs.View.{viewEngine}
+use Rattle.engine.specs.Calls.{Does}
+use Rattle.fetching.specs.Taking.{Admissible, Admits, AdmitWrites}
+use Rattle.engine.proofs.Does.{same-size}
+use Rattle.fetching.proofs.Holding.{slot-there}
+use Rattle.engine.proofs.Spreading.{full-window}
+use Rattle.fetching.proofs.Admitting.{does-admit, all-four, after-fetch}
+use Rattle.scoreboard.specs.View.{parts}
 use Rattle.scoreboard.proofs.ScoreboardPipeline.fetched.Statement.{statement}
 use Rattle.scoreboard.proofs.ScoreboardPipeline.fetched.Tie as tie
 
 admit-requires : tie.Need-admit-requires
 admit-requires c κs =
     let s = c .before .before .before .before .before .before .before .before in
-    record { engine = s .args .self; valid = s .pre }
+    record { engine = parts (s .args .self); valid = s .pre }
 
 admit-requires-2 : tie.Need-admit-requires-2
 admit-requires-2 c κs =
     let s = c .before .before .before .before .before .before .before .before in
-    let e = s .args .self in
+    let e = parts (s .args .self) in
     subst (λ (w : Window). Admissible (e .board) w (e .tracks) (e .machine) (e .table)) (sym (full-window (s .pre .parts .window) (c .before .if1 .left)))
     (record { engine = e; valid = s .pre })
 
@@ -34,7 +35,7 @@ admitted : (j : tie.Joined1) → Admits (j .before .before .before .before .befo
     (j .before .before .before .before .before .before .before .args .op) (length (j .before .before .before .before .before .before .before .args .cells .now)) (j .if1 .r)
 admitted j =
     let s = j .before .before .before .before .before .before .before in
-    let e = s .args .self in
+    let e = parts (s .args .self) in
     let n = length (s .args .cells .now) in
     ⊎-elim
     (λ w. subst (Admits (e .board) (e .window) (e .tracks) (e .machine) (e .table) (s .args .op) n) (sym (w .6)) (w .2 .ensures .0))
@@ -47,10 +48,10 @@ admitted j =
 -- The cells after either.
 cells-left : (j : tie.Joined1)
     → j .if1 .cells
-    ≡ memory-after (viewEngine (j .before .before .before .before .before .before .before .args .self)) (fetch (viewOp (j .before .before .before .before .before .before .before .args .op)) (length (j .before .before .before .before .before .before .before .args .cells .now))) (j .before .before .before .before .before .before .before .args .cells .now)
+    ≡ memory-after (viewEngine (parts (j .before .before .before .before .before .before .before .args .self))) (fetch (viewOp (j .before .before .before .before .before .before .before .args .op)) (length (j .before .before .before .before .before .before .before .args .cells .now))) (j .before .before .before .before .before .before .before .args .cells .now)
 cells-left j =
     let s = j .before .before .before .before .before .before .before in
-    let e = s .args .self in
+    let e = parts (s .args .self) in
     let m = s .args .cells .now in
     ⊎-elim
     (λ w. w .5 ∙ w .2 .ensures .1 e (s .pre))
@@ -107,13 +108,13 @@ same-length : tie.Need-same-length
 same-length c =
     let s = c .before .before .before .before .before .before .before .before .before .before .before .before .before .before .before in
     let m = s .args .cells .now in
-    same-size (viewEngine (s .args .self)) (fetch (viewOp (s .args .op)) (length m)) m (cells-left (c .before .before .before .before .before .before .before .before))
+    same-size (viewEngine (parts (s .args .self))) (fetch (viewOp (s .args .op)) (length m)) m (cells-left (c .before .before .before .before .before .before .before .before))
 
 returns : tie.Need-returns
 returns c =
     let j = c .before .before .before .before .before .before .before .before in
     let s = c .before .before .before .before .before .before .before .before .before .before .before .before .before .before .before in
-    let e = s .args .self in
+    let e = parts (s .args .self) in
     let r = j .if1 .r in
     let a = c .done-or .result in
     let n = length (s .args .cells .now) in (

@@ -8,10 +8,11 @@ use Rattle.model.specs.Write.{stopped, halt}
 use Rattle.model.specs.Calls.{calls, bad-text}
 use Rattle.op.specs.View.{shown}
 use Rattle.board.specs.View.{viewBoard}
-use Rattle.scoreboard.specs.View.{frame-of, viewEngine, viewAnswer}
-use Rattle.scoreboard.proofs.Fits.{short-text}
-use Rattle.scoreboard.proofs.Does.{does-taken}
+use Rattle.engine.specs.View.{frame-of, viewEngine, viewAnswer}
+use Rattle.engine.proofs.Fits.{short-text}
+use Rattle.engine.proofs.Does.{does-taken}
 use Rattle.scoreboard.proofs.Stopping.{stopped-is, stopped-parts}
+use Rattle.scoreboard.specs.View.{parts}
 use Rattle.scoreboard.proofs.ScoreboardPipeline.halt.Statement.{statement}
 use Rattle.scoreboard.proofs.ScoreboardPipeline.halt.Tie as tie
 
@@ -35,7 +36,7 @@ unfolding viewEngine viewAnswer viewBoard calls stopped halt shown bytes
 returns c =
     let d = c .before in
     let s = d .before .before .before .before in
-    let e = s .args .self in
+    let e = parts (s .args .self) in
     let p = s .pre .parts in
     let after = d .stopped .ensures in
     does-taken (s .pre) refl (λ m. refl)

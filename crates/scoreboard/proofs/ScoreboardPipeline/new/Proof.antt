@@ -22,8 +22,8 @@ use Rattle.config.specs.Checks.{nothing-declared}
 use Rattle.config.proofs.Checks.{accepted}
 use Rattle.checks.specs.Numbered.{numbered}
 use Rattle.checks.proofs.Table.{well}
-use Rattle.scoreboard.specs.View.{viewAnswer}
-use Rattle.scoreboard.specs.Answers.{new-state}
+use Rattle.engine.specs.View.{viewAnswer}
+use Rattle.scoreboard.specs.Calls.{new-state}
 use borrow.Author.Needs.{needs}
 use Rattle.scoreboard.proofs.ScoreboardPipeline.new.Statement.{statement}
 use Rattle.scoreboard.proofs.ScoreboardPipeline.new.Tie as tie

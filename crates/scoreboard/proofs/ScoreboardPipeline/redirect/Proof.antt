@@ -5,9 +5,10 @@ use Rattle.model.specs.Scoreboard.{reset-to}
 use Rattle.config.specs.View.{viewMachine}
 use Rattle.stalls.specs.View.{viewLog}
 use Rattle.board.specs.View.{boards}
-use Rattle.scoreboard.specs.View.{shown}
-use Rattle.scoreboard.proofs.Does.{does-taken}
+use Rattle.engine.specs.View.{shown}
+use Rattle.engine.proofs.Does.{does-taken}
 use Rattle.scoreboard.proofs.Fresh.{built-places, built-knows, fresh-is, fresh-parts}
+use Rattle.scoreboard.specs.View.{parts}
 use Rattle.scoreboard.proofs.ScoreboardPipeline.redirect.Statement.{statement}
 use Rattle.scoreboard.proofs.ScoreboardPipeline.redirect.Tie as tie
 
@@ -24,7 +25,7 @@ unfolding shown calls reset-to boards viewLog
 returns c =
     let n = c .before .before .before .before .before in
     let v = n .before .before .before .before .before .pre in
-    let e = n .before .before .before .before .before .args .self in
+    let e = parts (n .before .before .before .before .before .args .self) in
     let p = v .parts in
     does-taken v refl (λ m. refl)
     (fresh-is p (n .new .ensures) (n .before .build .ensures) (e .board .front .enabled) (e .board .log .stats) (e .window))

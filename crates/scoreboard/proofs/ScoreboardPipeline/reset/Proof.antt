@@ -17,11 +17,12 @@ use Rattle.rows.proofs.Bytes.{write-all-length}
 use Rattle.config.specs.View.{viewMachine}
 use Rattle.timeline.specs.View.{from, viewRows, no-rows}
 use Rattle.board.specs.View.{viewBoard}
-use Rattle.scoreboard.specs.View.{viewEngine}
-use Rattle.scoreboard.proofs.Fetches.{row-passes, no-number, some-number}
-use Rattle.scoreboard.proofs.Does.{memory-set, memory-kept}
-use Rattle.scoreboard.proofs.Boards.{settled-done, settled-refused}
+use Rattle.engine.specs.View.{viewEngine}
+use Rattle.checks.proofs.Passing.{row-passes, no-number, some-number}
+use Rattle.engine.proofs.Does.{memory-set, memory-kept}
+use Rattle.engine.proofs.Boards.{settled-done, settled-refused}
 use Rattle.scoreboard.proofs.Fresh.{built-places, built-knows, fresh-board, fresh-engine, fresh-is, fresh-stats, fresh-parts}
+use Rattle.scoreboard.specs.View.{parts}
 use Rattle.scoreboard.proofs.ScoreboardPipeline.reset.Statement.{statement}
 use Rattle.scoreboard.proofs.ScoreboardPipeline.reset.Tie as tie
 
@@ -58,7 +59,7 @@ returns c =
     let j = c .before in
     let d = j .before in
     let s = d .before .before in
-    let e = s .args .self in
+    let e = parts (s .args .self) in
     let p = s .pre .parts in
     let call = reset (s .args .address) (length (now (s .args .cells))) in
     ⊎-elim
@@ -68,7 +69,7 @@ returns c =
     let b = w .4 .result in
     let k = no-rows (e .window .history) in (
       settled-done (s .pre) (d .short .ensures) (c .done-or .ensures)
-          (fresh-engine e (fresh-board (e .board .front .enabled) (b .log .stats) b) k) (w .0 .taken) (w .14) (λ m. refl)
+          (fresh-engine e (fresh-board (e .board .front .enabled) (b .log .stats) b) k) (w .0 .taken) (ap parts (w .14)) (λ m. refl)
           (fresh-is p f u (e .board .front .enabled) (b .log .stats) k
           ∙ ap
           (λ (a : Stats).
@@ -82,7 +83,7 @@ returns c =
       w .15 ∙ w .7 .ensures ∙ memory-set (viewEngine e) call (now (s .args .cells)) (no-number (d .short .ensures) (w .0 .taken)),
     ))
     (λ w. (
-      settled-refused (s .pre) (d .short .ensures) (c .done-or .ensures) (w .0 .left) (w .1),
+      settled-refused (s .pre) (d .short .ensures) (c .done-or .ensures) (w .0 .left) (ap parts (w .1)),
       w .2 ∙ memory-kept (viewEngine e) call (now (s .args .cells)) (some-number (d .short .ensures) (w .0 .left)),
     ))
     (j .if1 .came)

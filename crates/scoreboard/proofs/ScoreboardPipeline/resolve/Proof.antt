@@ -11,10 +11,11 @@ use Rattle.model.specs.Calls.{no-offer, checks, refusal, run, reply}
 use Rattle.registers.specs.View.{claimed as index, viewHeld}
 use Rattle.checks.specs.Numbered.{numbered}
 use Rattle.board.specs.View.{viewBoard}
-use Rattle.scoreboard.specs.View.{viewEngine}
-use Rattle.scoreboard.proofs.Does.{does-taken}
-use Rattle.scoreboard.proofs.Answers.{second-no, below-64}
-use Rattle.scoreboard.proofs.Boards.{settled-refused}
+use Rattle.engine.specs.View.{viewEngine}
+use Rattle.engine.proofs.Does.{does-taken}
+use Rattle.offering.proofs.Answers.{second-no, below-64}
+use Rattle.engine.proofs.Boards.{settled-refused}
+use Rattle.scoreboard.specs.View.{parts}
 use Rattle.scoreboard.proofs.ScoreboardPipeline.resolve.Statement.{statement}
 use Rattle.scoreboard.proofs.ScoreboardPipeline.resolve.Tie as tie
 
@@ -50,7 +51,7 @@ returns-2 c =
     let l = c .before in
     let d = l .before in
     let s = d .before .before .before .before in
-    let e = s .args .self in
+    let e = parts (s .args .self) in
     does-taken (s .pre) (sym (d .resolve .ensures) ∙ cond-eq none (some (d .resolve .result)) (l .if1 .left))
     (λ m. c .resolve-answer .ensures (e .texts) (viewHeld (e .table))) refl (s .pre .parts)
 

@@ -12,11 +12,12 @@ use Rattle.model.specs.Calls.{bad-text, no-offer, checks, refusal, run, reply}
 use Rattle.op.specs.View.{viewText}
 use Rattle.checks.specs.Numbered.{numbered}
 use Rattle.board.specs.View.{viewBoard}
-use Rattle.scoreboard.specs.View.{frame-of, viewEngine}
-use Rattle.scoreboard.specs.Calls.{with-board}
-use Rattle.scoreboard.proofs.Answers.{offer-there, third-no}
-use Rattle.scoreboard.proofs.Fits.{short-text}
-use Rattle.scoreboard.proofs.Boards.{still-parts, settled-done, settled-refused}
+use Rattle.engine.specs.View.{frame-of, viewEngine}
+use Rattle.engine.specs.Engine.{with-board}
+use Rattle.offering.proofs.Answers.{offer-there, third-no}
+use Rattle.engine.proofs.Fits.{short-text}
+use Rattle.engine.proofs.Boards.{still-parts, settled-done, settled-refused}
+use Rattle.scoreboard.specs.View.{parts}
 use Rattle.scoreboard.proofs.ScoreboardPipeline.retry.Statement.{statement}
 use Rattle.scoreboard.proofs.ScoreboardPipeline.retry.Tie as tie
 
@@ -43,14 +44,14 @@ returns c =
     let j = c .before in
     let d = j .before in
     let s = d .before .before in
-    let e = s .args .self in
+    let e = parts (s .args .self) in
     ⊎-elim
     (λ w.
     let after = w .1 .ensures in
-    settled-done (s .pre) (d .retry .ensures) (c .done-or .ensures) (with-board (w .1 .result) e) (w .0 .taken) (w .2) (λ m. refl)
+    settled-done (s .pre) (d .retry .ensures) (c .done-or .ensures) (with-board (w .1 .result) e) (w .0 .taken) (ap parts (w .2)) (λ m. refl)
     (after .is (frame-of e))
     (still-parts e (w .1 .result) (s .pre .parts) (after .ok) (after .still) (ap (λ (x : State). x .front) (after .is (frame-of e)))))
-    (λ w. settled-refused (s .pre) (d .retry .ensures) (c .done-or .ensures) (w .0 .left) (w .1))
+    (λ w. settled-refused (s .pre) (d .retry .ensures) (c .done-or .ensures) (w .0 .left) (ap parts (w .1)))
     (j .if1 .came)
 
 pub retry-spec : {M : Type 1} → statement M

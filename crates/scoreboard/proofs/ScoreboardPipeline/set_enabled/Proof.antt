@@ -3,8 +3,8 @@ use Rattle.model.specs.Calls.{calls}
 use Rattle.model.specs.Scoreboard.{set-enabled}
 use Rattle.board.specs.View.{boards}
 use Rattle.board.specs.Contracts.{placing}
-use Rattle.scoreboard.specs.View.{shown}
-use Rattle.scoreboard.proofs.Does.{does-taken}
+use Rattle.engine.specs.View.{shown}
+use Rattle.engine.proofs.Does.{does-taken}
 use Rattle.scoreboard.proofs.ScoreboardPipeline.set_enabled.Statement.{statement}
 use Rattle.scoreboard.proofs.ScoreboardPipeline.set_enabled.Tie as tie
 

@@ -2,6 +2,7 @@ use Rattle.config.specs.View.{viewMachine}
 use Rattle.timeline.specs.Cells.{cell-answer}
 use Rattle.board.specs.View.{viewBoard}
 use Rattle.scoreboard.specs.View.{viewEngine}
+use Rattle.engine.specs.View.{viewEngine as engine-view}
 use Rattle.views.proofs.Shows.{cell-shown, cell-missing}
 use borrow.Author.Needs.{needs}
 use Rattle.views.proofs.history.timeline_cell.Statement.{statement}
@@ -20,7 +21,7 @@ enum-told : tie.Need-enum-told
 enum-told c = search needs
 
 returns : tie.Need-returns
-unfolding viewEngine viewBoard viewMachine
+unfolding engine-view viewBoard viewMachine
 returns c =
     let k = c .before .before in
     let r = k .before .before in
@@ -29,7 +30,7 @@ returns c =
     (k .shown .given .1) (c .cell .ensures)
 
 returns-2 : tie.Need-returns-2
-unfolding viewEngine viewBoard viewMachine cell-answer
+unfolding engine-view viewBoard viewMachine cell-answer
 returns-2 c =
     let r = c .before .before in
     let s = r .before .before .before in

@@ -2,7 +2,7 @@ use mathlib.Core.Path.{sym}
 use Rattle.stalls.specs.View.{viewLog}
 use Rattle.timeline.proofs.Steps.{rows-count}
 use Rattle.board.specs.View.{viewBoard}
-use Rattle.scoreboard.specs.View.{viewEngine}
+use Rattle.engine.specs.View.{viewEngine}
 use Rattle.views.proofs.history.timeline_len.Statement.{statement}
 use Rattle.views.proofs.history.timeline_len.Tie as tie
 

@@ -1,6 +1,6 @@
 use Rattle.stalls.specs.View.{viewLog}
 use Rattle.board.specs.View.{viewBoard}
-use Rattle.scoreboard.specs.View.{viewEngine}
+use Rattle.engine.specs.View.{viewEngine}
 use borrow.Author.Needs.{needs}
 use Rattle.views.proofs.history.timeline_row.Statement.{statement}
 use Rattle.views.proofs.history.timeline_row.Tie as tie

@@ -2,6 +2,7 @@ use mathlib.Core.Path.{_∙_}
 use Rattle.registers.specs.View.{viewHeld}
 use Rattle.board.specs.View.{viewBoard}
 use Rattle.scoreboard.specs.View.{viewEngine}
+use Rattle.engine.specs.View.{viewEngine as engine-view}
 use Rattle.views.proofs.Shows.{unit-same}
 use borrow.Author.Needs.{needs}
 use Rattle.views.proofs.kinds.unit.Statement.{statement}
@@ -11,7 +12,7 @@ unit-view-requires : tie.Need-unit-view-requires
 unit-view-requires c κs = search needs
 
 returns : tie.Need-returns
-unfolding viewEngine viewBoard
+unfolding engine-view viewBoard
 returns c =
     let s = c .before .before .before .before .before in
     let e = s .args .engine in

@@ -1,7 +1,7 @@
 use mathlib.Core.Path.{sym}
 use Rattle.config.proofs.Machines.{specs-length}
 use Rattle.board.specs.View.{viewBoard}
-use Rattle.scoreboard.specs.View.{viewEngine}
+use Rattle.engine.specs.View.{viewEngine}
 use Rattle.views.proofs.kinds.unit_count.Statement.{statement}
 use Rattle.views.proofs.kinds.unit_count.Tie as tie
 

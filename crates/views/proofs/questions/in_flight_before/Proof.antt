@@ -2,7 +2,8 @@ use mathlib.Core.Path.{sym, _∙_}
 use Rattle.model.specs.Scoreboard.{in-flight, in-flight-before}
 use Rattle.occupants.specs.View.{is-before}
 use Rattle.board.specs.View.{viewBoard}
-use Rattle.scoreboard.specs.View.{legend-of, viewEngine}
+use Rattle.scoreboard.specs.View.{legend-of}
+use Rattle.engine.specs.View.{viewEngine}
 use Rattle.views.proofs.Shows.{any-first, any-second}
 use borrow.Author.Needs.{needs}
 use Rattle.views.proofs.questions.in_flight_before.Statement.{statement}

@@ -3,7 +3,8 @@ use Rattle.model.specs.Scoreboard.{in-flight, resume-pc}
 use Rattle.registers.specs.View.{viewHeld}
 use Rattle.occupants.specs.View.{address-or}
 use Rattle.board.specs.View.{viewBoard}
-use Rattle.scoreboard.specs.View.{legend-of, viewEngine}
+use Rattle.scoreboard.specs.View.{legend-of}
+use Rattle.engine.specs.View.{viewEngine}
 use borrow.Author.Needs.{needs}
 use Rattle.views.proofs.questions.resume_pc.Statement.{statement}
 use Rattle.views.proofs.questions.resume_pc.Tie as tie

@@ -3,6 +3,7 @@ use Rattle.config.specs.View.{viewMachine}
 use Rattle.registers.specs.View.{viewHeld}
 use Rattle.board.specs.View.{viewBoard}
 use Rattle.scoreboard.specs.View.{viewEngine}
+use Rattle.engine.specs.View.{viewEngine as engine-view}
 use Rattle.views.proofs.Shows.{stage-same}
 use borrow.Author.Needs.{needs}
 use Rattle.views.proofs.stages.stage.Statement.{statement}
@@ -12,7 +13,7 @@ stage-view-requires : tie.Need-stage-view-requires
 stage-view-requires c κs = search needs
 
 returns : tie.Need-returns
-unfolding viewEngine viewBoard
+unfolding engine-view viewBoard
 returns c =
     let s = c .before .before .before .before .before in
     let e = s .args .engine in

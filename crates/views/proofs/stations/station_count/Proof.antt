@@ -1,7 +1,8 @@
 use mathlib.Core.Path.{sym}
 use Rattle.bank.proofs.Steps.{units-length}
 use Rattle.board.specs.View.{viewBoard}
-use Rattle.scoreboard.specs.View.{legend-of, viewEngine}
+use Rattle.scoreboard.specs.View.{legend-of}
+use Rattle.engine.specs.View.{viewEngine}
 use Rattle.views.proofs.stations.station_count.Statement.{statement}
 use Rattle.views.proofs.stations.station_count.Tie as tie
 

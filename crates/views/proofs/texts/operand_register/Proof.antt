@@ -2,13 +2,14 @@
 use Rattle.model.specs.Requests.{operand-register, operand-text, text-at}
 use Rattle.board.specs.View.{known-names, viewBoard}
 use Rattle.scoreboard.specs.View.{legend-of, viewEngine}
+use Rattle.engine.specs.View.{viewEngine as engine-view}
 use Rattle.views.proofs.Told.{told}
 use borrow.Author.Needs.{needs}
 use Rattle.views.proofs.texts.operand_register.Statement.{statement}
 use Rattle.views.proofs.texts.operand_register.Tie as tie
 
 returns : tie.Need-returns
-unfolding text-at operand-text viewEngine viewBoard known-names
+unfolding text-at operand-text engine-view viewBoard known-names
 returns c =
     let w = c .before .before in
     let s = w .before .before .before .before .before .before in

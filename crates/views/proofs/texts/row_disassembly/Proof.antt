@@ -3,6 +3,7 @@ use Rattle.model.specs.Requests.{row-disassembly, text-at}
 use Rattle.stalls.specs.View.{viewLog}
 use Rattle.board.specs.View.{viewBoard}
 use Rattle.scoreboard.specs.View.{viewEngine}
+use Rattle.engine.specs.View.{viewEngine as engine-view}
 use Rattle.words.proofs.Shown.{wrote-is}
 use Rattle.views.proofs.Told.{told}
 use borrow.Author.Needs.{needs}
@@ -10,7 +11,7 @@ use Rattle.views.proofs.texts.row_disassembly.Statement.{statement}
 use Rattle.views.proofs.texts.row_disassembly.Tie as tie
 
 returns : tie.Need-returns
-unfolding text-at viewEngine viewBoard viewLog
+unfolding text-at engine-view viewBoard viewLog
 returns c =
     let w = c .before .before in
     let d = w .before .before in

@@ -3,6 +3,7 @@ use Rattle.model.specs.Requests.{slot-text}
 use Rattle.config.specs.View.{viewMachine}
 use Rattle.requests.specs.View.{viewPlace, viewField}
 use Rattle.scoreboard.specs.View.{legend-of, frame-of, viewEngine}
+use Rattle.engine.specs.View.{viewEngine as engine-view}
 use Rattle.views.proofs.Told.{told, slot-told}
 use borrow.Author.Needs.{needs}
 use Rattle.views.proofs.texts.slot_text.Statement.{statement}
@@ -16,7 +17,7 @@ write-field-requires c κs =
     (o .op-at .ensures (viewMachine (s .args .engine .machine)) .ok, (p .texts, p .table))
 
 returns : tie.Need-returns
-unfolding viewEngine
+unfolding engine-view
 returns c =
     let w = c .before .before in
     let o = w .before .before in

@@ -2,13 +2,14 @@
 use Rattle.model.specs.Requests.{station-label, text-at}
 use Rattle.board.specs.View.{viewBoard}
 use Rattle.scoreboard.specs.View.{legend-of, viewEngine}
+use Rattle.engine.specs.View.{viewEngine as engine-view}
 use Rattle.views.proofs.Told.{told}
 use borrow.Author.Needs.{needs}
 use Rattle.views.proofs.texts.station_label.Statement.{statement}
 use Rattle.views.proofs.texts.station_label.Tie as tie
 
 returns : tie.Need-returns
-unfolding text-at viewEngine viewBoard
+unfolding text-at engine-view viewBoard
 returns c =
     let w = c .before .before in
     let a = w .before .before .before .before .before .before .args in

@@ -3,13 +3,14 @@ use Rattle.model.specs.Requests.{status-message, text-at}
 use Rattle.stalls.specs.View.{viewLog}
 use Rattle.board.specs.View.{viewBoard}
 use Rattle.scoreboard.specs.View.{viewEngine}
+use Rattle.engine.specs.View.{viewEngine as engine-view}
 use Rattle.views.proofs.Told.{told}
 use borrow.Author.Needs.{needs}
 use Rattle.views.proofs.texts.status_message.Statement.{statement}
 use Rattle.views.proofs.texts.status_message.Tie as tie
 
 returns : tie.Need-returns
-unfolding text-at viewEngine viewBoard viewLog
+unfolding text-at engine-view viewBoard viewLog
 returns c =
     let w = c .before .before in
     let s = w .before .before .before .before in

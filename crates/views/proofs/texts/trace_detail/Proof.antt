@@ -3,13 +3,14 @@ use Rattle.model.specs.Requests.{trace-detail, text-at}
 use Rattle.stalls.specs.View.{viewTrace, viewTraces, viewLog}
 use Rattle.board.specs.View.{known-names, viewBoard}
 use Rattle.scoreboard.specs.View.{viewEngine}
+use Rattle.engine.specs.View.{viewEngine as engine-view}
 use Rattle.views.proofs.Told.{told}
 use borrow.Author.Needs.{needs}
 use Rattle.views.proofs.texts.trace_detail.Statement.{statement}
 use Rattle.views.proofs.texts.trace_detail.Tie as tie
 
 returns : tie.Need-returns
-unfolding text-at viewEngine viewBoard known-names viewLog viewTraces viewTrace
+unfolding text-at engine-view viewBoard known-names viewLog viewTraces viewTrace
 returns c =
     let w = c .before .before in
     let s = w .before .before .before .before .before .before .before .before .before in

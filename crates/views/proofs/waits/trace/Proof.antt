@@ -1,6 +1,7 @@
 use Rattle.stalls.specs.View.{viewLog}
 use Rattle.board.specs.View.{log-frame, viewBoard}
-use Rattle.scoreboard.specs.View.{frame-of, viewEngine}
+use Rattle.scoreboard.specs.View.{frame-of}
+use Rattle.engine.specs.View.{viewEngine}
 use borrow.Author.Needs.{needs}
 use Rattle.views.proofs.waits.trace.Statement.{statement}
 use Rattle.views.proofs.waits.trace.Tie as tie

@@ -2,7 +2,8 @@ use mathlib.Core.Path.{sym}
 use Rattle.stalls.specs.View.{viewLog}
 use Rattle.stalls.proofs.Logged.{traces-length}
 use Rattle.board.specs.View.{log-frame, viewBoard}
-use Rattle.scoreboard.specs.View.{frame-of, viewEngine}
+use Rattle.scoreboard.specs.View.{frame-of}
+use Rattle.engine.specs.View.{viewEngine}
 use Rattle.views.proofs.waits.trace_count.Statement.{statement}
 use Rattle.views.proofs.waits.trace_count.Tie as tie
 

@@ -1,0 +1,4 @@
+pub mod Engine
+pub mod View
+pub mod Valid
+pub mod Calls
