@@ -1,4 +1,6 @@
 // The rest of a cycle (ooo/scoreboard.rs, advance), by parts.
+#![tactic(auto)]
+
 ghost use Rattle.std.specs.Prelude.{◌≡◌, ℕ, ◌*◌, ◌≤◌, length};
 ghost use Rattle.laws.specs.Optional.{when_some};
 ghost use Rattle.model.specs.Calls.{invitation, invitation_of};

@@ -1,4 +1,5 @@
 // Answers as bytes (docs/CALLS.md): each function writes from a place on and hands back the next place.
+#![tactic(auto)]
 
 // Numbers, flags and bytes.
 pub mod parts;

@@ -1,4 +1,6 @@
 // The units of a machine (pipeline/ooo/scoreboard.rs).
+#![tactic(auto)]
+
 ghost use Rattle.std.specs.Prelude.{◌≡◌, [], ◌++◌, map, ◌+◌, ◌≤◌, ◌<◌, replicate};
 ghost use Rattle.laws.specs.Lists.{any, modify};
 ghost use Rattle.model.specs.Config.{capacities};
@@ -11,7 +13,7 @@ ghost use Rattle.bank.specs.View.{view_units, places, UnitsOk, UnitsAre};
 use config::Machine;
 use units::Unit;
 
-#[derive(Drop)]
+#[derive(Clone, Copy)]
 pub struct Units {
     pub items: [Unit; 64],
     pub len: usize,

@@ -1,4 +1,6 @@
 // The waits of finished units that may not write.
+#![tactic(auto)]
+
 ghost use Rattle.std.specs.Prelude.{◌+◌, ◌≤◌};
 ghost use Rattle.stalls.specs.View.{LogOk};
 ghost use Rattle.slots.specs.View.{units_of, Lent};

@@ -1,4 +1,6 @@
 // What a cycle works on: units, queue, claims, the cycle's waits and counters, and the flags (pipeline/ooo/scoreboard.rs, ScoreboardPipeline).
+#![tactic(auto)]
+
 ghost use Rattle.std.specs.Prelude.{◌≡◌, true, false, ◌||◌, ◌≤◌, ◌<◌, replicate};
 ghost use Rattle.std.proofs.Math.Option.{none};
 ghost use Rattle.laws.specs.Lists.{All};
@@ -22,20 +24,20 @@ use stalls::Log;
 use units::is_system;
 
 // A branch, a system operation is in flight.
-#[derive(Drop)]
+#[derive(Clone, Copy)]
 pub struct Marks {
     pub branch: bool,
     pub system: bool,
 }
 
 // The unit whose result is on offer, 64 for none; whether it was retired.
-#[derive(Drop)]
+#[derive(Clone, Copy)]
 pub struct Offer {
     pub writing: usize,
     pub retired: bool,
 }
 
-#[derive(Drop)]
+#[derive(Clone, Copy)]
 pub struct Front {
     pub enabled: bool,
     pub halted: bool,
@@ -45,7 +47,7 @@ pub struct Front {
 }
 
 // `gone` is the place in the pool of the operation that left in this cycle, 80 for none: the cycle's waits may name it.
-#[derive(Drop)]
+#[derive(Clone, Copy)]
 pub struct Board {
     pub units: Units,
     pub fetch_pc: u64,
@@ -60,7 +62,7 @@ pub struct Board {
 }
 
 // A board without its units, which are lent: rows of bytes and numbers, of which the first n count.
-#[derive(Drop)]
+#[derive(Clone, Copy)]
 pub struct Sequencer {
     pub fetch_pc: u64,
     pub queue: Queue,

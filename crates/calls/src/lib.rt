@@ -1,4 +1,6 @@
 // A list of calls as bytes (docs/CALLS.md): a machine is made, the calls are played on it, and every answer is written.
+#![tactic(auto)]
+
 use cycles::{cycle_at, play_cycles};
 use decoding::machine::shape_at;
 use decoding::parts::number_at;
@@ -44,7 +46,7 @@ ghost use Rattle.calls.specs.Steps.{AllPlayable};
 
 // What a pass over a list tells: is it of its form, how many calls it has, how many bytes its answers take in all, and the most bytes of cell
 // memory that it lends.
-#[derive(Drop)]
+#[derive(Clone, Copy)]
 pub struct Tally {
     pub formed: bool,
     pub calls: u64,

@@ -1,4 +1,6 @@
 // What a host reads of a pipeline (capability/pipeline.rs): the kinds of thing that it tells apart, and the counters.
+#![tactic(auto)]
+
 ghost use Rattle.std.specs.Prelude.{◌≡◌, ◌≤◌, length};
 ghost use Rattle.laws.specs.Means.{Means};
 ghost use Rattle.laws.specs.Numbers.{saturating_add};
@@ -34,7 +36,7 @@ ghost use Rattle.capability.specs.Labels.{
 };
 
 // Broad instruction categories, for timing and presentation.
-#[derive(Drop)]
+#[derive(Clone, Copy)]
 pub enum PipelineInstructionClass {
     Alu,
     Multiply,
@@ -49,7 +51,7 @@ pub enum PipelineInstructionClass {
 }
 
 // Hazards common to pipeline models.
-#[derive(Drop)]
+#[derive(Clone, Copy)]
 pub enum PipelineHazardKind {
     ReadAfterWrite,
     LoadUse,
@@ -68,7 +70,7 @@ pub enum PipelineTraceKind {
 }
 
 // What a stage is for.
-#[derive(Drop)]
+#[derive(Clone, Copy)]
 pub enum PipelineStageRole {
     Fetch,
     Decode,
@@ -81,7 +83,7 @@ pub enum PipelineStageRole {
 }
 
 // How instructions move between two stages.
-#[derive(Drop)]
+#[derive(Clone, Copy)]
 pub enum PipelineEdgeKind {
     Sequential,
     Forward,
@@ -111,7 +113,7 @@ pub enum PipelineEntryPhase {
 }
 
 // Where an instruction is within a unit. (scoreboard.rs; here because model and code share it.)
-#[derive(Drop)]
+#[derive(Clone, Copy)]
 pub enum Phase {
     Wait,
     Read,
@@ -129,7 +131,7 @@ pub struct PipelineStatus {
 }
 
 // The counters; each stops at 2^64 - 1.
-#[derive(Drop)]
+#[derive(Clone, Copy)]
 pub struct PipelineStats {
     pub cycles: u64,
     pub committed: u64,
@@ -146,7 +148,7 @@ pub struct PipelineStats {
 }
 
 // A directed edge between two stages.
-#[derive(Drop)]
+#[derive(Clone, Copy)]
 pub struct PipelineEdge {
     pub from: u8,
     pub to: u8,

@@ -1,6 +1,8 @@
 // Case W on the engine's code, driven as `forecast` drives its machine: EX of capacity 3, depth 2, overlap on, mul extra 2, others 0; a multiply
 // writes x2; b alu reads x2, x1; c alu writes x1. A line for each offer, with its cycle, then the stalls of the run.
 // The file stdout is document 01's: a in cycle 8, b in 11, c in 12; RAW 4, WAR 2.
+#![tactic(auto)]
+
 ghost use Rattle.std.specs.Prelude.{◌≡◌, length};
 ghost use Rattle.scoreboard.specs.Valid.{Valid};
 

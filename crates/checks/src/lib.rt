@@ -1,4 +1,6 @@
 // What calls are refused for, in the order that counts; 0 for nothing (model: Calls.checks).
+#![tactic(auto)]
+
 ghost use Rattle.std.specs.Prelude.{◌≡◌, not, ◌&&◌, ◌||◌, [], ◌∷◌, ◌*◌, ◌≤◌, eqb, ltb};
 ghost use Rattle.laws.specs.Optional.{is_none};
 ghost use Rattle.laws.specs.Lists.{nth};

@@ -1,4 +1,6 @@
 // What a machine declares (pipeline/config.rs), what making refuses of it, and what the engine keeps.
+#![tactic(auto)]
+
 ghost use Rattle.std.specs.Prelude.{◌≡◌, map, ◌+◌, ◌-◌, ◌≤◌, ◌<◌, min, max};
 ghost use Rattle.std.proofs.Math.Option.{none};
 ghost use Rattle.laws.specs.Means.{Means};
@@ -37,7 +39,7 @@ use capability::{PipelineInstructionClass, PipelineStageRole};
 use op::MaybeNumber;
 
 // Extra execution cycles of each class that has any, over the one that every operation takes.
-#[derive(Drop)]
+#[derive(Clone, Copy)]
 pub struct PipelineTiming {
     pub alu: u64,
     pub mul: u64,
@@ -49,14 +51,14 @@ pub struct PipelineTiming {
 }
 
 // A kind's name: 1 to 8 bytes, each 0x20 to 0x7E. Others are refused.
-#[derive(Drop)]
+#[derive(Clone, Copy)]
 pub struct KindName {
     pub bytes: [u8; 8],
     pub len: u8,
 }
 
 // A kind of functional unit as declared. `classes` has a flag for each class; with none set it takes every class.
-#[derive(Drop)]
+#[derive(Clone, Copy)]
 pub struct UnitSpec {
     pub name: KindName,
     pub classes: [bool; 10],
@@ -67,13 +69,13 @@ pub struct UnitSpec {
 }
 
 // A stage of the declared datapath: of it only the role counts.
-#[derive(Drop)]
+#[derive(Clone, Copy)]
 pub struct StageSpec {
     pub role: PipelineStageRole,
 }
 
 // A machine as declared. Counts over 16 are refused.
-#[derive(Drop)]
+#[derive(Clone, Copy)]
 pub struct PipelineShape {
     pub stages: [StageSpec; 16],
     pub stages_len: usize,
@@ -94,7 +96,7 @@ pub enum Checked {
 }
 
 // A kind as the engine keeps it: `classes` says whether it takes a class.
-#[derive(Drop)]
+#[derive(Clone, Copy)]
 pub struct Spec {
     pub name: KindName,
     // No class was listed.
@@ -105,7 +107,7 @@ pub struct Spec {
 }
 
 // What the engine keeps of a machine.
-#[derive(Drop)]
+#[derive(Clone, Copy)]
 pub struct Machine {
     pub specs: [Spec; 16],
     pub specs_len: usize,

@@ -1,4 +1,6 @@
 // The two halves of a cycle that units tell of: the start, which offers a result, and the work between the write and the issue.
+#![tactic(auto)]
+
 ghost use Rattle.std.specs.Prelude.{◌≡◌, [], ◌≤◌, ◌<◌};
 ghost use Rattle.model.specs.Write.{take_out, offer_found, start_cycle};
 ghost use Rattle.registers.specs.View.{claimed as index};

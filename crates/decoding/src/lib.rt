@@ -1,4 +1,5 @@
 // A machine and calls, read from a list of bytes (docs/CALLS.md). A place is counted from the front of the whole list.
+#![tactic(auto)]
 
 // Numbers, flags, classes, roles and texts.
 pub mod parts;

@@ -1,5 +1,7 @@
 // The run of the program `forecast`: it drives the engine by its calls alone, each on the parts that it works on. Each invitation takes a line, every
 // offer is retired, and it ends when the lines are used up and nothing is in flight.
+#![tactic(auto)]
+
 ghost use Rattle.std.specs.Prelude.{◌≡◌, ◌≤◌, length};
 ghost use Rattle.model.specs.Scoreboard.{idle};
 ghost use Rattle.model.specs.Forecast.{forecast_shape, lent_of, forecast_run, fuel_for, going};

@@ -1,5 +1,7 @@
 // The engine by its parts: what it means to the model, what holds of every engine, what a call says of one (specs), and what calls answer. The struct
 // with the calls as its methods stands in crates/scoreboard; the work behind them, over parts, in crates/offering, advancing and fetching.
+#![tactic(auto)]
+
 ghost use Rattle.std.specs.Prelude.{◌≡◌};
 ghost use Rattle.laws.specs.Optional.{when_some};
 ghost use Rattle.model.specs.Calls.{done, refused};

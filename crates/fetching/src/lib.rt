@@ -1,4 +1,6 @@
 // A fetch by parts: the operation's names become numbers, and it goes into the queue with a place in the pool.
+#![tactic(auto)]
+
 ghost use Rattle.std.specs.Prelude.{◌≡◌, length, false, ◌<◌, ◌≤◌};
 ghost use Rattle.laws.specs.Means.{Means};
 ghost use Rattle.model.specs.Calls.{bad_info};

@@ -1,4 +1,6 @@
 // Operations in flight: the fetch queue, and the pool of what is only moved, looked at and shown.
+#![tactic(auto)]
+
 use capability::{PipelineHazardKind, PipelineInstructionClass};
 
 // What a fetch writes to the pool.
@@ -15,14 +17,14 @@ ghost use Rattle.flight.specs.declared.MaybeHazard.TheVariants.{Some, Nothing};
 ghost use Rattle.flight.specs.View.{view_hazard, read, written, view_operands, view_queued, view_queue, entries, OperandsOk, QueuedOk, QueueOk};
 ghost use Rattle.flight.specs.Promises.{no_operands, hazardous, Queues};
 
-#[derive(Drop)]
+#[derive(Clone, Copy)]
 pub enum MaybeHazard {
     Some(PipelineHazardKind),
     Nothing,
 }
 
 // An operation's registers by number: reads, then writes.
-#[derive(Drop)]
+#[derive(Clone, Copy)]
 pub struct Operands {
     pub sources: [u8; 8],
     pub destinations: [u8; 4],
@@ -31,7 +33,7 @@ pub struct Operands {
 }
 
 // A queued operation. `seq` counts the fetches accepted before it, and is the id of its row; `place` is its place in the pool.
-#[derive(Drop)]
+#[derive(Clone, Copy)]
 pub struct Queued {
     pub seq: u64,
     pub operands: Operands,
@@ -43,7 +45,7 @@ pub struct Queued {
 }
 
 // Fetched and not yet issued, in program order.
-#[derive(Drop)]
+#[derive(Clone, Copy)]
 pub struct Queue {
     pub items: [Queued; 16],
     pub len: usize,

@@ -6,7 +6,7 @@ ghost use Rattle.flight.specs.Pool.{decoded_of, texts_of, no_decoded, no_texts, 
 use op::{MaybeName, MaybeText, Name, PipelineOp, Text};
 
 // Numbers of an operation that no decision of a cycle reads.
-#[derive(Drop)]
+#[derive(Clone, Copy)]
 pub struct Decoded {
     pub address: u64,
     pub length: u64,
@@ -16,19 +16,19 @@ pub struct Decoded {
 }
 
 // The texts of an operation.
-#[derive(Drop)]
+#[derive(Clone, Copy)]
 pub struct Texts {
     pub disassembly: Text,
     pub fault: MaybeText,
     pub destination: MaybeName,
 }
 
-#[derive(Drop)]
+#[derive(Clone, Copy)]
 pub struct DecodedPool {
     pub items: [Decoded; 80],
 }
 
-#[derive(Drop)]
+#[derive(Clone, Copy)]
 pub struct TextPool {
     pub items: [Texts; 80],
 }

@@ -1,4 +1,6 @@
 // Reads a sequence from standard input, and prints its forecast.
+#![tactic(auto)]
+
 fn main() {
     let mut input = [0u8; 65537];
     let n = io::read_full(0, &mut input);

@@ -1,4 +1,6 @@
 // The program `forecast` as a function on lent slices.
+#![tactic(auto)]
+
 ghost use Rattle.std.specs.Prelude.{◌≡◌, ◌*◌, ◌≤◌, min, length, take};
 ghost use Rattle.laws.specs.Texts.{Text};
 ghost use Rattle.model.specs.Forecast.{printed, forecast_answer, forecast_memory, forecast_out};

@@ -1,4 +1,5 @@
 // Views of the engine's parts (PipelineInspect, PipelineDynamicInspect), each from the parts that it reads.
+#![tactic(auto)]
 
 // The five stages, each with its oldest occupant.
 pub mod stages;

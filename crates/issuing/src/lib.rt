@@ -1,4 +1,6 @@
 // One operation a cycle, in program order (ooo/scoreboard.rs, issue and block_issue).
+#![tactic(auto)]
+
 ghost use Rattle.std.specs.Prelude.{◌≡◌, true, ℕ, ◌<◌};
 ghost use Rattle.laws.specs.Lists.{All, rest};
 ghost use Rattle.model.specs.Registers.{resolve};

@@ -1,4 +1,6 @@
 // A line of the program `forecast`, read as an operation.
+#![tactic(auto)]
+
 use op::PipelineOp;
 use reading::Reading;
 
@@ -16,7 +18,7 @@ ghost use Rattle.lines.specs.Held.{held, view_reading};
 ghost use Rattle.lines.specs.Lines.{LineRead};
 
 // What a line is read as, and where the next one starts. The operation of a line that is not of the form means nothing.
-#[derive(Drop)]
+#[derive(Clone, Copy)]
 pub struct Read {
     pub form: bool,
     pub op: PipelineOp,

@@ -1,4 +1,6 @@
 // The numbers of an operation's registers, looked up among a table's names in lent arrays: a row of 16 bytes a name, its count beside the rows.
+#![tactic(auto)]
+
 ghost use Rattle.std.specs.Prelude.{◌≡◌, false, map, ◌≤◌, ◌<◌, length};
 ghost use Rattle.runs.proofs.Names.{Distinct};
 ghost use Rattle.model.specs.Registers.{intern};

@@ -1,4 +1,6 @@
 // Operations in flight, as views look at them: one in a unit as the queue would keep it (PipelineSlotView).
+#![tactic(auto)]
+
 use bank::Units;
 use capability::PipelineInstructionClass;
 use flight::pool::DecodedPool;
@@ -51,7 +53,7 @@ pub struct MaybeOp {
     pub op: Queued,
 }
 
-#[derive(Drop)]
+#[derive(Clone, Copy)]
 pub struct MaybeUnit {
     pub some: bool,
     pub unit: Unit,

@@ -1,4 +1,6 @@
 // The result on offer: what start and resolve answer, and a start or a retire by parts.
+#![tactic(auto)]
+
 ghost use Rattle.std.specs.Prelude.{◌≡◌, ℕ, ◌<◌};
 ghost use Rattle.flight.specs.Pool.{DecodedPoolOk};
 ghost use Rattle.bank.specs.View.{UnitsOk};

@@ -1,4 +1,6 @@
 // One operation, described in terms that no instruction set owns (pipeline/op.rs): its texts and names, the checks on them, and the next address.
+#![tactic(auto)]
+
 use capability::PipelineInstructionClass;
 
 // Checks and copies of bytes, shared by texts and names.
@@ -20,39 +22,39 @@ pub use slices::{has_bad_byte, is_bad_text, printable, same_bytes};
 pub use word::mnemonic;
 
 // At most 64 bytes, each 0x20 to 0x7E. A longer len is refused.
-#[derive(Drop)]
+#[derive(Clone, Copy)]
 pub struct Text {
     pub bytes: [u8; 64],
     pub len: u8,
 }
 
 // A register's name: at most 16 bytes.
-#[derive(Drop)]
+#[derive(Clone, Copy)]
 pub struct Name {
     pub bytes: [u8; 16],
     pub len: u8,
 }
 
-#[derive(Drop)]
+#[derive(Clone, Copy)]
 pub struct MaybeText {
     pub some: bool,
     pub text: Text,
 }
 
-#[derive(Drop)]
+#[derive(Clone, Copy)]
 pub struct MaybeName {
     pub some: bool,
     pub name: Name,
 }
 
-#[derive(Drop)]
+#[derive(Clone, Copy)]
 pub enum MaybeNumber {
     Some(u64),
     Nothing,
 }
 
 // An operation as the caller hands it over. Counts over 8 and 4 are refused.
-#[derive(Drop)]
+#[derive(Clone, Copy)]
 pub struct PipelineOp {
     pub address: u64,
     // Encoded length in bytes. Ignored where the machine has a fixed one.

@@ -1,5 +1,7 @@
 // What the program `forecast` prints, laid down in a lent page: a line for each held row, and the totals; or a refused line. Each function
 // writes from a place on and hands back the next place.
+#![tactic(auto)]
+
 ghost use Rattle.std.specs.Prelude.{◌≡◌, [], ◌++◌, ◌+◌, ◌*◌, ◌≤◌, length};
 ghost use Rattle.laws.specs.Optional.{value_or, when_some};
 ghost use Rattle.laws.specs.Texts.{decimal};

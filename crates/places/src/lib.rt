@@ -1,4 +1,6 @@
 // A place of the pool for a new operation.
+#![tactic(auto)]
+
 ghost use Rattle.std.specs.Prelude.{◌≡◌, List, ◌++◌, ◌∷◌, [], ℕ, ◌+◌, ◌≤◌, length};
 ghost use Rattle.flight.specs.View.{QueueOk};
 ghost use Rattle.bank.specs.View.{places};

@@ -1,4 +1,6 @@
 // The timeline's cells of a cycle (ooo/scoreboard.rs, record_timeline and flush).
+#![tactic(auto)]
+
 ghost use Rattle.std.specs.Prelude.{◌≡◌, map, ◌*◌, ◌≤◌, length};
 ghost use Rattle.laws.specs.Lists.{keep};
 ghost use Rattle.model.specs.Units.{is_busy};

@@ -1,4 +1,6 @@
 // Registers by number (pipeline/ooo/registers.rs): their names, and who owes each a value.
+#![tactic(auto)]
+
 use op::Name;
 
 // The methods of RegisterTable.
@@ -9,7 +11,7 @@ mod producers;
 pub use table::through;
 
 // Names by number, in order of first fetch. The first `known` have been looked at; the first `held` also count those of queued operations.
-#[derive(Drop)]
+#[derive(Clone, Copy)]
 pub struct RegisterTable {
     pub names: [Name; 256],
     pub known: usize,
@@ -58,7 +60,7 @@ pub struct Resolved {
 }
 
 // For each register the unit that owes it its next value. 64 is nobody, as is any larger byte.
-#[derive(Drop)]
+#[derive(Clone, Copy)]
 pub struct Claims {
     pub unit: [u8; 256],
     pub len: usize,
@@ -72,7 +74,7 @@ pub struct Claimed {
 }
 
 // A register, and the unit that owes it.
-#[derive(Drop)]
+#[derive(Clone, Copy)]
 pub struct Owed {
     pub register: u8,
     pub unit: u8,
@@ -85,7 +87,7 @@ pub enum MaybeOwed {
 }
 
 // What an operation waits for.
-#[derive(Drop)]
+#[derive(Clone, Copy)]
 pub struct Waits {
     pub items: [Owed; 8],
     pub len: u8,

@@ -1,5 +1,7 @@
 // Text requests, each from the parts that it reads: the texts of an operation, wherever it is shown, and the text of a wait. None where the index
 // is past the end, before any check of the buffer; else 13 where the buffer is short, with nothing written.
+#![tactic(auto)]
+
 use bank::Units;
 use config::{KindName, Machine};
 use flight::pool::TextPool;

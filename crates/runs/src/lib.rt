@@ -1,2 +1,4 @@
 // Theorems over the model: see specs/ and proofs/. There is no code here.
+#![tactic(auto)]
+
 pub fn nothing() {}

@@ -1,6 +1,8 @@
 // The scoreboard (pipeline/ooo/scoreboard.rs): making, and the driver's calls. Each call takes the engine and hands back the next one; a refusal
 // hands back the very engine that came in. The work behind a call, over the parts that it reads and changes, stands in crates/offering, advancing and
 // fetching.
+#![tactic(auto)]
+
 use bank::Units;
 use board::Board;
 use config::{Machine, PipelineShape};
@@ -28,7 +30,7 @@ ghost use Rattle.scoreboard.specs.Valid.{Parts, Valid};
 ghost use Rattle.scoreboard.specs.Calls.{new_state, Makes, Does};
 
 // What a cycle works on comes first, then what a fetch writes. `window.next` is the number of the next operation, and the id of its row.
-#[derive(Drop)]
+#[derive(Clone, Copy)]
 pub struct ScoreboardPipeline {
     pub board: Board,
     pub window: Window,

@@ -1,5 +1,6 @@
 // Sample sequences, each read from its file and forecast: a line with the file's name, and what `forecast` prints.
 // The file stdout is the Rust's own output, made by harness/src/bin/forecasts.rs over the same files. docs/EXAMPLES.md shows them.
+#![tactic(auto)]
 
 // A file as `forecast` reads it: at most 65,536 bytes, and one more that tells excess input.
 fn forecast_file(fd: i32) {

@@ -1,4 +1,6 @@
 // Units in lent arrays: a row of 40 bytes a unit, and the units' numbers beside the rows.
+#![tactic(auto)]
+
 use bank::Units;
 use units::Unit;
 

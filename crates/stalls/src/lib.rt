@@ -1,4 +1,6 @@
 // Waits of a cycle: each is listed and counted (ooo/scoreboard.rs, stall; pipeline/timeline.rs, Trace).
+#![tactic(auto)]
+
 use capability::{PipelineHazardKind, PipelineStats};
 use timeline::WaitForm;
 
@@ -14,7 +16,7 @@ ghost use Rattle.stalls.specs.View.{form_kind, view_trace, listed, view_stats, v
 ghost use Rattle.stalls.specs.Promises.{NoRedirect, redirect_trace, Lists, Logs};
 
 // A wait by numbers: places in the pool of the operation that waits and of the one waited for (80 for none), and a register's number, or a kind's.
-#[derive(Drop)]
+#[derive(Clone, Copy)]
 pub struct Trace {
     pub form: WaitForm,
     pub mine: u8,
@@ -23,7 +25,7 @@ pub struct Trace {
 }
 
 // `target` is where the redirect of the cycle goes.
-#[derive(Drop)]
+#[derive(Clone, Copy)]
 pub struct TraceList {
     pub items: [Trace; 130],
     pub len: usize,
@@ -31,7 +33,7 @@ pub struct TraceList {
 }
 
 // What a cycle tells: its waits, and the counters.
-#[derive(Drop)]
+#[derive(Clone, Copy)]
 pub struct Log {
     pub traces: TraceList,
     pub stats: PipelineStats,

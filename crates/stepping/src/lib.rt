@@ -1,4 +1,6 @@
 // What a cycle does to lent units, each changed where it stands (pipeline/ooo/scoreboard.rs). A loop writes only the units that it changes.
+#![tactic(auto)]
+
 ghost use Rattle.std.specs.Prelude.{◌≡◌, map, ◌<◌, set};
 ghost use Rattle.laws.specs.Lists.{any, modify, find_at};
 ghost use Rattle.model.specs.Units.{

@@ -1,4 +1,6 @@
 // The waits that units tell: of a unit whose source is owed.
+#![tactic(auto)]
+
 ghost use Rattle.std.specs.Prelude.{◌+◌, ◌≤◌};
 ghost use Rattle.stalls.specs.View.{LogOk};
 ghost use Rattle.units.specs.View.{UnitOk};

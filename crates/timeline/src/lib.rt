@@ -1,5 +1,7 @@
 // The rows of past cycles (pipeline/timeline.rs). What moves each cycle is apart from what stays as it was opened, and the cells stand in lent
 // memory: row id r in slot r mod history, 200 bytes a slot, its cell c (from 0 at opening) at byte c mod 200.
+#![tactic(auto)]
+
 use capability::PipelineInstructionClass;
 use op::{MaybeText, Text};
 
@@ -32,7 +34,7 @@ ghost use Rattle.timeline.specs.View.{
 };
 
 // What a wait of a cycle is for (`Trace`). WaitsForOlder is WaitsFor without a producer.
-#[derive(Drop)]
+#[derive(Clone, Copy)]
 pub enum WaitForm {
     Overwrites,
     MemoryOrder,
@@ -47,20 +49,20 @@ pub enum WaitForm {
 }
 
 // What moves each cycle: the first cycle shown, the cells held, the byte of the oldest.
-#[derive(Drop)]
+#[derive(Clone, Copy)]
 pub struct Track {
     pub first_cycle: u64,
     pub cells: u8,
     pub oldest: u8,
 }
 
-#[derive(Drop)]
+#[derive(Clone, Copy)]
 pub struct Tracks {
     pub items: [Track; 256],
 }
 
 // What stays as it was opened.
-#[derive(Drop)]
+#[derive(Clone, Copy)]
 pub struct RowText {
     pub address: u64,
     pub class: PipelineInstructionClass,
@@ -68,13 +70,13 @@ pub struct RowText {
     pub disassembly: Text,
 }
 
-#[derive(Drop)]
+#[derive(Clone, Copy)]
 pub struct RowTexts {
     pub items: [RowText; 256],
 }
 
 // Which rows are held: those of ids next - held to next - 1, at most `history` of them.
-#[derive(Drop)]
+#[derive(Clone, Copy)]
 pub struct Window {
     pub next: u64,
     pub held: usize,
@@ -89,7 +91,7 @@ pub enum Slot {
 }
 
 // PipelineTimelineRow, with the row's id and the byte of its oldest cell.
-#[derive(Drop)]
+#[derive(Clone, Copy)]
 pub struct PipelineTimelineRow {
     pub id: u64,
     pub address: u64,

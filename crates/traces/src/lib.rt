@@ -1,4 +1,6 @@
 // The texts of a cycle's waits (pipeline/timeline.rs, `Trace`), as ooo/scoreboard.rs formats them, and the texts that views show.
+#![tactic(auto)]
+
 use texts::{Written, write_hex, write_three};
 use timeline::WaitForm;
 

@@ -1,4 +1,6 @@
 // The timeline's tracks in lent arrays: a row of 2 bytes a track, the cells held and the byte of the oldest, and the first cycles beside the rows.
+#![tactic(auto)]
+
 ghost use Rattle.std.specs.Prelude.{◌≡◌, ◌*◌, ◌%◌, ◌<◌, ◌≤◌, length, set};
 ghost use Rattle.laws.specs.Means.{Means};
 ghost use Rattle.model.specs.Timeline.{write_all, push_writes, open_writes};

@@ -1,4 +1,6 @@
 // One functional unit, and the scoreboard row that tracks it (pipeline/ooo/scoreboard.rs, Unit).
+#![tactic(auto)]
+
 use capability::{Phase, PipelineHazardKind, PipelineInstructionClass};
 use flight::{MaybeHazard, Operands, Queued};
 use registers::Waits;
@@ -36,7 +38,7 @@ ghost use Rattle.flight.specs.View.{Legend, view_hazard, read, written, view_que
 ghost use Rattle.units.specs.View.{view_unit, UnitOk, UnitIs};
 
 // What changes while a unit works.
-#[derive(Drop)]
+#[derive(Clone, Copy)]
 pub struct Progress {
     pub phase: Phase,
     pub hazard: MaybeHazard,
@@ -45,7 +47,7 @@ pub struct Progress {
 
 // A unit: its kind, its number within the kind, and the operation that it holds, whose place in the pool is `place`, 80 where it holds none.
 // `pending` has the sources that are owed, and the unit that owes each. While its result is on offer `busy` is off and the rest stays.
-#[derive(Drop)]
+#[derive(Clone, Copy)]
 pub struct Unit {
     pub seq: u64,
     pub operands: Operands,

@@ -1,4 +1,6 @@
 // Plays each list of data/lists by `calls_play`, and prints what it answered and left (docs/COMPARISON.md). The file stdout has the Rust's answers.
+#![tactic(auto)]
+
 ghost use Rattle.std.specs.Prelude.{◌≡◌, ◌<◌, min, length};
 ghost use Rattle.io.specs.Counts.{IsPrefixLen};
 ghost use Rattle.vectors.specs.Digest.{digest};

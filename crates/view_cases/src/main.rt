@@ -1,6 +1,8 @@
 // Every view of an engine, in a line each, as it passes through five states: idle; rows evicted; a capacity noted while a unit is busy, and built
 // later; during an offer; halted. A number stands for a class, a role, a phase, a hazard; `-` where there is none.
 // The file stdout is the Rust's own output (harness/src/bin/view_cases.rs).
+#![tactic(auto)]
+
 ghost use Rattle.std.specs.Prelude.{◌≡◌, length};
 ghost use Rattle.scoreboard.specs.Valid.{Valid};
 

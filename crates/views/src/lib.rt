@@ -1,5 +1,7 @@
 // What a host sees of the engine (ooo/scoreboard.rs, the impls PipelineInspect and PipelineDynamicInspect): numbers by value, texts into a lent
 // buffer. A view of an engine hands the parts that it needs to a function on them.
+#![tactic(auto)]
+
 use capability::{PipelineStats, PipelineStatus};
 use scoreboard::ScoreboardPipeline;
 

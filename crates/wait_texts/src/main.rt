@@ -1,5 +1,7 @@
 // Every text that `traces` writes, a line for each, on words, kinds and numbers at the ends of their limits.
 // The file stdout is the Rust's own output: harness/src/bin/wait_texts.rs drives its engine into each wait and prints what its views show.
+#![tactic(auto)]
+
 use timeline::WaitForm;
 use traces::texts::Written;
 
