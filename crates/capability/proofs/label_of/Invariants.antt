@@ -1,0 +1,22 @@
+-- After i turns the array holds the text's first i bytes, then zeros.
+use Prim.Native.Nat.{ℕ, zero, suc, ◌+◌, ◌-◌, ◌≤◌, ◌<◌}
+use mathlib.Core.Path.{◌≡◌, refl, sym, ◌∙◌}
+use mathlib.Core.List.{List, ◌++◌}
+use native.Mathlib.Omega.{arith}
+use native.Mathlib.Numerals.{add-one}
+use native.Mathlib.Nat.{zero-add, sub-zero, zero-sub, suc-sub-suc}
+use lib.ListN.{length, take, drop, set, get_or, replicate, length-append, length-replicate}
+use lib.Seq.{paste-suc, take_all, take_at, drop_at}
+use Rattle.laws.specs.Means.{Means}
+use Rattle.capability.specs.Labels.{label_text, LabelOk}
+use Rattle.capability.proofs.label_of.Given as goal
+
+-- The first i bytes of a text, then zeros up to 12.
+abbrev pub begun : List ℕ → ℕ → List ℕ
+begun text i = take i text ++ drop i (replicate 12 0)
+
+abbrev pub invariant-loop-i : goal.invariant-loop-i
+invariant-loop-i l = (l.bytes ≡ begun l.text l.i) × (l.i ≤ length l.text)
+
+abbrev pub decreases-loop-i : goal.decreases-loop-i
+decreases-loop-i l = length l.text - l.i
