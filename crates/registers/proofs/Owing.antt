@@ -19,7 +19,7 @@ use Rattle.laws.proofs.Tests.{lt-or-ge, cond-lt, cond-ge, cond_yes, cond_no}
 use Rattle.laws.proofs.Slices.{Seen, seen-nth, seen-modify, seen-get_or, view-next, view-length, view-modify, slice-end, nth_end, modify-end, All-take, All-drop, All-append, All-replicate}
 use Rattle.laws.proofs.Maps.{map-drop}
 use Rattle.laws.proofs.Search.{Scan, scan-first, scan-last, fold_next}
-use Rattle.model.specs.Registers.{pad, producer_of, release_held, outstanding, registers}
+use Rattle.model.specs.Registers.{pad, producer_of, release_held, outstanding}
 use Rattle.model.specs.Issue.{taken, waits_on}
 use Rattle.registers.specs.declared.Claims.{Claims}
 use Rattle.registers.specs.declared.Waits.{Waits}

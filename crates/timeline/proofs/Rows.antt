@@ -12,7 +12,7 @@ use lib.ListN.{length, drop}
 use Rattle.laws.specs.Lists.{nth}
 use Rattle.laws.proofs.Tests.{cond-eq, cond-ne, lt-or-ge}
 use Rattle.model.specs.Timeline.{Row, add_cell, push, push_writes, next_place, open_row}
-use Rattle.timeline.specs.View.{from, opened}
+use Rattle.timeline.specs.View.{from}
 
 -- ── Rows one after the other ────────────────────────────────────────────────
 

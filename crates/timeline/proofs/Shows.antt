@@ -14,7 +14,6 @@ use Rattle.laws.proofs.Tests.{cond_yes, cond_no, cond-ne, cond-lt, cond-ge, and_
 use Rattle.laws.proofs.Slices.{nth-get_or, get_d_any, All-get_or}
 use Rattle.capability.specs.declared.PipelineTimelineState.{PipelineTimelineState}
 use Rattle.capability.specs.declared.PipelineTimelineState.TheVariants as cell
-use Rattle.capability.specs.declared.PipelineStageRole.{PipelineStageRole}
 use Rattle.capability.specs.declared.PipelineStageRole.TheVariants as role
 use Rattle.model.specs.Timeline.{Row, cell_at, timeline}
 use Rattle.model.specs.Views.{row_view, cell_state, label_role, cell_view}
