@@ -95,7 +95,7 @@ module _ (lent : List ℕ) where
         next = ap (λ (k : ℕ). x.first + k) (push-length i rs) ∙ x.next;
         at_most = omega (arith, push-length i rs, x.at_most);
         shown =
-            push-shown h i c x.first rs xs m x.some_history (omega (arith, x.room, x.same_length)) x.ids x.at_most x.shown;
+            push-shown h i c m x.first rs xs x.some_history (omega (arith, x.room, x.same_length)) x.ids x.at_most x.shown;
         blank = λ k l f z g. let e = free-pushed h i k rs f in push-leaves h i c.byte k rs m e z g ∙ x.blank k l e z g;
         room = x.room;
         same_length = write_all-length (push_writes h i c.byte rs) m ∙ x.same_length;
@@ -204,7 +204,7 @@ module _ (lent : List ℕ) where
 
       others : All2 (RowShown h m') kept (drop k xs)
       others =
-          rest-shown h n (w.first + k) kept (drop k xs) m m' agrees
+          rest-shown h n m m' (w.first + k) kept (drop k xs) agrees
           (λ z l g. apart h z n (omega (arith, kept-length, w.next, fits)) (omega (arith, kept-length, kept-few, w.next, fits)))
           (ids-drop k w.first rs fits w.ids) (all_drop (RowShown h m) k rs xs w.shown)
 

@@ -25,12 +25,12 @@ SlotFree history k rows = All (λ (r : Row). r.id % history ≡ k → ⊥) rows
 
 -- What touches slot j alone leaves rows of other slots as they were shown.
 pub rest-shown
-    : (h j b : ℕ) (rs : List Row) (xs : List RustRow) (m m' : List ℕ) → ((k : ℕ) → (k ≡ j % h → ⊥) → Agrees k m m')
+    : (h j : ℕ) (m m' : List ℕ) (b : ℕ) (rs : List Row) (xs : List RustRow) → ((k : ℕ) → (k ≡ j % h → ⊥) → Agrees k m m')
     → ((x : ℕ) → b ≤ x → x < b + length rs → x % h ≡ j % h → ⊥) → Ids b rs → All2 (RowShown h m) rs xs → All2 (RowShown h m') rs xs
-rest-shown h j b rs xs m m' a f i none2 = none2
-rest-shown h j b rs xs m m' a f i (more2 {a = r} {b = y} {as' = rs'} {bs = ys} s ss) =
+rest-shown h j m m' b rs xs a f i none2 = none2
+rest-shown h j m m' b rs xs a f i (more2 {a = r} {b = y} {as' = rs'} {bs = ys} s ss) =
     more2 (shown-agrees h r y m m' (a (r.id % h) (f r.id (omega (arith, i.0)) (omega (arith, i.0)))) s)
-    (rest-shown h j (suc b) rs' ys m m' a (λ x l g. f x (omega arith) (omega arith)) i.1 ss)
+    (rest-shown h j m m' (suc b) rs' ys a (λ x l g. f x (omega arith) (omega arith)) i.1 ss)
 
 pub push-ids : (i b : ℕ) (rs : List Row) → Ids b rs → Ids b (push i rs)
 unfolding timeline
@@ -117,15 +117,15 @@ free-last h k [] x f = (tt, f.0)
 free-last h k (r ∷ rs) x f = let g = free-last h k rs x f.1 in ((f.0, g.0), g.1)
 
 pub push-shown
-    : (h i : ℕ) (c : RustCell) (b : ℕ) (rs : List Row) (xs : List RustRow) (m : List ℕ) → 1 ≤ h → h * 200 ≤ length m → Ids b rs → length rs ≤ h
+    : (h i : ℕ) (c : RustCell) (m : List ℕ) (b : ℕ) (rs : List Row) (xs : List RustRow) → 1 ≤ h → h * 200 ≤ length m → Ids b rs → length rs ≤ h
     → All2 (RowShown h m) rs xs → All2 (RowShown h (write_all (push_writes h i c.byte rs) m)) (push i rs) (rust_push i c xs)
 unfolding timeline rust_timeline
-push-shown h i c b rs xs m one room ids few none2 = none2
-push-shown h i c b rs xs m one room ids few (more2 {a = r} {b = y} {as' = rs'} {bs = ys} s ss) =
+push-shown h i c m b rs xs one room ids few none2 = none2
+push-shown h i c m b rs xs one room ids few (more2 {a = r} {b = y} {as' = rs'} {bs = ys} s ss) =
     subst
     (λ (n : ℕ).
     All2 (RowShown h (write_all (push_writes h i c.byte (r ∷ rs')) m)) (push i (r ∷ rs')) (cond (eqb n i) (rust_add c y ∷ ys) (y ∷ rust_push i c ys)))
-    s.same_id (go (eqb r.id i) (push-shown h i c (suc b) rs' ys m one room ids.1 (omega arith) ss))
+    s.same_id (go (eqb r.id i) (push-shown h i c m (suc b) rs' ys one room ids.1 (omega arith) ss))
   where
     go
         : (t : Bool) → All2 (RowShown h (write_all (push_writes h i c.byte rs') m)) (push i rs') (rust_push i c ys)
@@ -133,7 +133,7 @@ push-shown h i c b rs xs m one room ids few (more2 {a = r} {b = y} {as' = rs'} {
         (cond t (add_cell r ∷ rs') (r ∷ push i rs')) (cond t (rust_add c y ∷ ys) (y ∷ rust_push i c ys))
     go true z =
         more2 (add-shown h c r y m one room s)
-        (rest-shown h r.id (suc b) rs' ys m (splice (next_place h r) (c.byte ∷ []) m)
+        (rest-shown h r.id m (splice (next_place h r) (c.byte ∷ []) m) (suc b) rs' ys
         (λ k n. write-agrees k (r.id % h) (next_place h r) (c.byte ∷ []) m n (omega arith) (omega arith))
         (λ x l g e. apart h r.id x (omega (arith, ids.0)) (omega (arith, ids.0)) (sym e)) ids.1 ss)
     go false z =
