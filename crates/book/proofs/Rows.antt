@@ -21,7 +21,7 @@ use Rattle.invariant.specs.Invariant.{Holds, In, occupied}
 use Rattle.invariant.proofs.Bools.{or-false}
 use Rattle.invariant.proofs.Entries.{offered-self}
 use Rattle.invariant.proofs.Lists.{nth-other, nth-same}
-use Rattle.book.specs.Book.{Source, Status, status, idle_row, fi_at}
+use Rattle.book.specs.Book.{Status, status, idle_row, fi_at}
 use Rattle.book.specs.Tables.{is_wait, source_of, row_of, shown_units, book_of}
 
 -- ── Phases ──────────────────────────────────────────────────────────────────

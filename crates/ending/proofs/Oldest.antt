@@ -2,14 +2,14 @@
 use Prim.Native.Nat.{ℕ, zero, suc, ◌≤◌, ◌<◌}
 use native.Mathlib.Omega.{arith}
 use mathlib.Core.Path.{◌≡◌, refl, sym, ◌∙◌, ap, subst}
-use mathlib.Core.Bool.{Bool, true, false, cond, not, true≢false}
+use mathlib.Core.Bool.{Bool, true, false, cond, true≢false}
 use mathlib.Core.Option.{Option, none, some}
 use mathlib.Core.List.{List, [], ◌∷◌}
 use mathlib.Core.Logic.{◌⊎◌, inl, inr}
 use Rattle.laws.specs.Lists.{All, nth}
 use Rattle.laws.proofs.Choices.{none-some, some_inj}
 use Rattle.laws.proofs.Tests.{lt-or-ge}
-use Rattle.model.specs.Units.{FunctionalUnit, units}
+use Rattle.model.specs.Units.{FunctionalUnit}
 use Rattle.invariant.specs.Invariant.{In}
 use Rattle.invariant.proofs.Bools.{or-false}
 use Rattle.invariant.proofs.Lists.{all-at}

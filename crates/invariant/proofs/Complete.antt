@@ -16,7 +16,6 @@ use Rattle.model.specs.Registers.{producer_of, release_all}
 use Rattle.model.specs.Scoreboard.{before_issue, close_cycle, closed, scoreboard, clear_status}
 use Rattle.model.specs.State.{State, with_units, with_log, Log}
 use Rattle.model.specs.Units.{FunctionalUnit, begin, clear, read_one, tick, unit_at, units, without_waits, idle_unit}
-use Rattle.model.specs.Write.{writing}
 use Rattle.invariant.specs.Invariant.{In, front_number}
 use Rattle.invariant.proofs.Lists.{omap-back, nth-same, nth-other}
 use Rattle.invariant.proofs.Consistent.{Entry, Consistent, consistent-later, unwait, Left, consistent-left}

@@ -24,7 +24,6 @@ use Rattle.model.specs.Scoreboard.{after_issue, scoreboard}
 use Rattle.model.specs.State.{State}
 use Rattle.model.specs.Traces.{Detail}
 use Rattle.model.specs.Units.{FunctionalUnit, occupy, units}
-use Rattle.model.specs.Write.{writing}
 use Rattle.runs.proofs.Names.{resolve-written}
 use Rattle.invariant.specs.Invariant.{In, front_number, Rising}
 use Rattle.invariant.proofs.Lists.{all_in, nth-same, nth-other, find-hit, in-dec}

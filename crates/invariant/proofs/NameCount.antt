@@ -1,5 +1,5 @@
 -- The names known and queued are never over 256: the test of a fetch is enough for every look after it.
-use Prim.Native.Nat.{ℕ, zero, suc, ◌+◌, ◌≤◌}
+use Prim.Native.Nat.{ℕ, zero, suc, ◌≤◌}
 use native.Mathlib.Omega.{arith}
 use mathlib.Core.Path.{◌≡◌, refl, sym, ◌∙◌, ap, ap₂, subst}
 use mathlib.Core.Bool.{Bool, true, false, cond}
@@ -14,7 +14,6 @@ use Rattle.laws.proofs.Choices.{either, none-some, some_inj, false-T}
 use Rattle.laws.proofs.Same.{same-of-eq}
 use Rattle.capability.specs.declared.PipelineHazardKind.{PipelineHazardKind}
 use Rattle.capability.specs.declared.PipelineHazardKind.TheVariants.{BranchFlush, FunctionalUnitBusy, WriteAfterWrite}
-use Rattle.model.specs.Units.{units}
 use Rattle.model.specs.Write.{writing}
 use Rattle.model.specs.Calls.{Call, advance as advance-call, calls, capacity, cell, fault as fault-call, fetch, halt as halt-call, names_in, names_with, overlap, redirect, refusal, reset, resolve as resolve-call, retire, retry as retry-call, run, start, text, view}
 use Rattle.model.specs.Issue.{complete_offer, free_unit, issue, issue_choose, issue_front, issue_to, issuing, learn, taken}

@@ -10,7 +10,7 @@ use Rattle.model.specs.Units.{FunctionalUnit, unit_at}
 use Rattle.model.specs.Write.{start_cycle}
 use Rattle.model.specs.Calls.{make_memory, overlap, start}
 use Rattle.model.specs.Everything.{everything}
-use Rattle.model.specs.Forecast.{Lent, Run, cycle, finished, forecast_run, forecast_shape, fuel_for, going, lent_of, line_refused, not_made, play, retire_offer, turn}
+use Rattle.model.specs.Forecast.{Lent, Run, cycle, finished, forecast_run, forecast_shape, fuel_for, going, lent_of, line_refused, not_made, play, retire_offer}
 use Rattle.invariant.proofs.Lists.{all-at}
 use Rattle.ending.specs.Ending.{begun, begun_made}
 use Rattle.ending.proofs.Played.{retire-played, start-played, started-open}

@@ -1,6 +1,6 @@
 -- A cell that Digest reads from a row's own bytes is the byte that the model's cell view reads from the cell memory.
 use Prim.Native.Nat.{ℕ, ◌+◌, ◌%◌}
-use mathlib.Core.Path.{◌≡◌, refl, ap}
+use mathlib.Core.Path.{◌≡◌, ap}
 use mathlib.Core.Bool.{cond}
 use mathlib.Core.Option.{Option, none}
 use mathlib.Core.List.{List}

@@ -26,33 +26,7 @@ use Rattle.model.specs.Views.{
   StationView,
   claims,
 }
-use Rattle.model.specs.Requests.{
-  Place,
-  in-queue,
-  in-station,
-  in-stage,
-  in-unit,
-  on_offer,
-  op_at,
-  Field,
-  disassembly,
-  destination,
-  fault,
-  source,
-  write,
-  field,
-  Request,
-  status_message,
-  trace-detail,
-  row-disassembly,
-  stage-name,
-  unit-name,
-  station-label,
-  rename-register,
-  cell_label,
-  operand_register,
-  text_at,
-}
+use Rattle.model.specs.Requests.{in-queue, in-station, in-stage, in-unit, on_offer, op_at, Field, disassembly, destination, fault, source, write, field, Request, status_message, trace-detail, row-disassembly, stage-name, unit-name, station-label, rename-register, cell_label, operand_register, text_at}
 use Rattle.model.specs.Calls as calls
 use Rattle.model.specs.Calls.{
   Answer,

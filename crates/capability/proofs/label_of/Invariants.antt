@@ -1,14 +1,8 @@
 -- After i turns the array holds the text's first i bytes, then zeros.
-use Prim.Native.Nat.{ℕ, zero, suc, ◌+◌, ◌-◌, ◌≤◌, ◌<◌}
-use mathlib.Core.Path.{◌≡◌, refl, sym, ◌∙◌}
+use Prim.Native.Nat.{ℕ, ◌-◌, ◌≤◌}
+use mathlib.Core.Path.{◌≡◌}
 use mathlib.Core.List.{List, ◌++◌}
-use native.Mathlib.Omega.{arith}
-use native.Mathlib.Numerals.{add-one}
-use native.Mathlib.Nat.{zero-add, sub-zero, zero-sub, suc-sub-suc}
-use lib.ListN.{length, take, drop, set, get_or, replicate, length-append, length-replicate}
-use lib.Seq.{paste-suc, take_all, take_at, drop_at}
-use Rattle.laws.specs.Means.{Means}
-use Rattle.capability.specs.Labels.{label_text, LabelOk}
+use lib.ListN.{length, take, drop, replicate}
 use Rattle.capability.proofs.label_of.Given as goal
 
 -- The first i bytes of a text, then zeros up to 12.

@@ -1,7 +1,5 @@
 -- Each arm makes the text of its case.
-use mathlib.Core.Path.{refl}
 use borrow.Author.Rules.{rules}
-use lib.Dec.{lit≤}
 use Rattle.capability.specs.Labels.{hazard_label, labels}
 use Rattle.capability.proofs.Labels.{told}
 use Rattle.capability.proofs.PipelineHazardKind.label.Goals as goal

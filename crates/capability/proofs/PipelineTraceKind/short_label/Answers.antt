@@ -1,7 +1,5 @@
 -- A hazard has its tag.
-use mathlib.Core.Path.{refl}
 use borrow.Author.Rules.{rules}
-use lib.Dec.{lit≤}
 use Rattle.capability.specs.Labels.{trace_label, labels}
 use Rattle.capability.proofs.Labels.{told}
 use Rattle.capability.proofs.PipelineTraceKind.short_label.Goals as goal
