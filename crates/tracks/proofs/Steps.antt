@@ -8,7 +8,6 @@ use Rattle.laws.specs.Means.{Means}
 use Rattle.laws.proofs.Slices.{All-set}
 use Rattle.model.specs.Timeline.{write_all, push_writes}
 use Rattle.timeline.specs.declared.Track.{Track}
-use Rattle.timeline.specs.declared.Tracks.{Tracks}
 use Rattle.timeline.specs.declared.RowTexts.{RowTexts}
 use Rattle.timeline.specs.declared.Window.{Window}
 use Rattle.timeline.specs.View.{first_track, view_rows, WindowOk, TrackOk, TracksOk, all_tracks, SlotOf, Grown, Pushed}
