@@ -1,0 +1,11 @@
+-- The letter's place is the number of its class.
+use mathlib.Core.Path.{sym, ap, ◌∙◌}
+use Rattle.capability.specs.Cases.{class_of}
+use Rattle.model.specs.Forecast.{letters}
+use Rattle.lines.proofs.Cut.{cut-place}
+use Rattle.lines.proofs.ClassAndSize.{class-place}
+use Rattle.lines.proofs.leading.class_by.Goals as goal
+
+pub returns : goal.returns
+unfolding class_of letters
+returns c = c.class_of.ensures ∙ ap class_of (cut-place c.place_of-n.ensures) ∙ sym (class-place letters _)
