@@ -1,5 +1,4 @@
 -- What the engine means to the model, and what its answers are.
-use Rattle.std.specs.Prelude.{ℕ}
 use Rattle.std.proofs.Math.Option.{none, some}
 use Rattle.model.specs.State.{State}
 use Rattle.model.specs.Views.{OfferView as ModelOffer}
