@@ -3,7 +3,7 @@
 // The file stdout is document 01's: a in cycle 8, b in 11, c in 12; RAW 4, WAR 2.
 #![tactic(auto)]
 
-ghost use Rattle.std.specs.Prelude.{◌≡◌, length};
+ghost use Rattle.std.specs.Prelude.{◌≡◌, length, IfOk};
 ghost use Rattle.scoreboard.specs.Valid.{Valid};
 
 use capability::{PipelineInstructionClass, PipelineStageRole};
@@ -11,6 +11,7 @@ use config::{PipelineShape, StageSpec};
 use engine::Answer;
 use op::{MaybeName, MaybeNumber, MaybeText, Name, PipelineOp, Text};
 use scoreboard::{Next, ScoreboardPipeline};
+use std::io;
 use traces::texts::{Written, write_label};
 
 // ── The machine and its operations ──────────────────────────────────────────
@@ -102,43 +103,44 @@ fn operation_at(number: usize, address: u64) -> PipelineOp {
 // ── Lines ───────────────────────────────────────────────────────────────────
 
 // What was written.
-fn put(w: Written, out: &[u8]) {
+fn put(rt: &impl Print, w: Written, out: &[u8]) -> io::Result<()> {
     if let Written::Bytes(n) = w {
         if n <= out.len() {
-            io::write_all(1, &out[..n]);
+            rt.write_all(&out[..n])?;
         }
     }
+    Ok(())
 }
 
-fn print(text: &[u8], number: u64) {
+fn print(rt: &impl Print, text: &[u8], number: u64) -> io::Result<()> {
     let mut out = [0u8; 256];
     let w = write_label(text, number as usize, &mut out);
-    put(w, &out);
+    put(rt, w, &out)
 }
 
-fn end() {
-    io::write_all(1, b"\n");
+fn end(rt: &impl Print) -> io::Result<()> {
+    rt.write_all(b"\n")
 }
 
 // ── The run ─────────────────────────────────────────────────────────────────
 
 // The first half of a cycle: what is offered is told, and retired.
-fn offered(engine: ScoreboardPipeline) -> ScoreboardPipeline
+fn offered(rt: &impl Print, engine: ScoreboardPipeline) -> io::Result<ScoreboardPipeline>
     requires { Valid engine }
-    ensures { Valid result }
+    ensures { IfOk result (λ e. Valid e) }
 {
     let next = engine.start_cycle();
     let after = next.engine;
     let answer = next.answer;
     match answer {
         Answer::Offered(v) => {
-            print(b"operation ", v.seq);
-            print(b" in cycle ", after.board.log.stats.cycles);
-            end();
+            print(rt, b"operation ", v.seq)?;
+            print(rt, b" in cycle ", after.board.log.stats.cycles)?;
+            end(rt)?;
             let settled = after.retire();
-            settled.engine
+            Ok(settled.engine)
         }
-        _ => after,
+        _ => Ok(after),
     }
 }
 
@@ -170,15 +172,19 @@ fn advanced(engine: ScoreboardPipeline, number: usize, cells: &mut [u8]) -> Next
     }
 }
 
-fn run(engine: ScoreboardPipeline, cells: &mut [u8]) -> ScoreboardPipeline
+fn run(
+    rt: &impl Print,
+    engine: ScoreboardPipeline,
+    cells: &mut [u8],
+) -> io::Result<ScoreboardPipeline>
     requires { Valid engine }
-    ensures { Valid result }
+    ensures { IfOk result (λ e. Valid e) }
 {
     let mut e = engine;
     let mut number: usize = 0;
     let mut i: usize = 0;
     while i < 16 {
-        let half = offered(e);
+        let half = offered(rt, e)?;
         let next = advanced(half, number, cells);
         e = next.engine;
         let answer = next.answer;
@@ -187,16 +193,16 @@ fn run(engine: ScoreboardPipeline, cells: &mut [u8]) -> ScoreboardPipeline
         }
         i += 1;
     }
-    e
+    Ok(e)
 }
 
-fn main() {
+fn main(rt: HostRuntime) -> io::Result<()> {
     let mut cells = [255u8; 800];
     let made = ScoreboardPipeline::new(machine(), 0, &mut cells);
     let idle = made.engine;
     let on = idle.set_enabled(true);
-    let e = run(on.engine, &mut cells);
-    print(b"RAW ", e.board.log.stats.raw_stalls);
-    print(b", WAR ", e.board.log.stats.war_stalls);
-    end();
+    let e = run(&rt, on.engine, &mut cells)?;
+    print(&rt, b"RAW ", e.board.log.stats.raw_stalls)?;
+    print(&rt, b", WAR ", e.board.log.stats.war_stalls)?;
+    end(&rt)
 }
