@@ -41,7 +41,7 @@ ghost use Rattle.occupants.specs.View.{with_offered, view_maybe_op, MaybeOpOk};
 ghost use Rattle.requests.specs.View.{view_place, view_field, wait_frame};
 
 // Where an operation is shown: in the queue, a station, a stage, a kind (its first), or handed out by start.
-#[derive(Drop)]
+#[derive(Clone, Copy)]
 pub enum Place {
     Queue(usize),
     Station(usize),
