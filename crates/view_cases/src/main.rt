@@ -3,7 +3,7 @@
 // The file stdout is the Rust's own output (harness/src/bin/view_cases.rs).
 #![tactic(auto)]
 
-ghost use Rattle.std.specs.Prelude.{◌≡◌, length};
+ghost use Rattle.std.specs.Prelude.{◌≡◌, length, IfOk};
 ghost use Rattle.scoreboard.specs.Valid.{Valid};
 
 use capability::{PipelineEdge, PipelineInstructionClass, PipelineStageRole};
@@ -19,118 +19,121 @@ use op::{MaybeNumber, Name, PipelineOp, Text};
 use registers::{MaybeIndex, MaybeOwed};
 use requests::{Field, Place};
 use scoreboard::ScoreboardPipeline;
+use std::io;
 use timeline::MaybeRow;
 use timeline::cells::MaybeCell;
 use traces::texts::{Written, write_label};
 
 // ── Words ───────────────────────────────────────────────────────────────────
 
-fn say(s: &[u8]) {
-    io::write_all(1, b" ");
-    io::write_all(1, s);
+fn say(rt: &impl Print, s: &[u8]) -> io::Result<()> {
+    rt.write_all(b" ")?;
+    rt.write_all(s)
 }
 
-fn end() {
-    io::write_all(1, b"\n");
+fn end(rt: &impl Print) -> io::Result<()> {
+    rt.write_all(b"\n")
 }
 
-fn told(w: Written, out: &[u8]) {
+fn told(rt: &impl Print, w: Written, out: &[u8]) -> io::Result<()> {
     match w {
         Written::Bytes(n) => {
             if n <= out.len() {
-                say(&out[..n]);
+                say(rt, &out[..n])?;
             }
+            Ok(())
         }
-        _ => say(b"-"),
+        _ => say(rt, b"-"),
     }
 }
 
-fn number(n: u64) {
+fn number(rt: &impl Print, n: u64) -> io::Result<()> {
     let mut out = [0u8; 20];
     let w = write_label(b"", n as usize, &mut out);
-    told(w, &out);
+    told(rt, w, &out)
 }
 
-fn flag(b: bool) {
-    if b {
-        say(b"yes");
-    } else {
-        say(b"no");
-    }
+fn flag(rt: &impl Print, b: bool) -> io::Result<()> {
+    if b { say(rt, b"yes") } else { say(rt, b"no") }
 }
 
-fn four(a: u64, b: u64, c: u64, d: u64) {
-    number(a);
-    number(b);
-    number(c);
-    number(d);
+fn four(rt: &impl Print, a: u64, b: u64, c: u64, d: u64) -> io::Result<()> {
+    number(rt, a)?;
+    number(rt, b)?;
+    number(rt, c)?;
+    number(rt, d)
 }
 
-fn index(m: MaybeIndex) {
+fn index(rt: &impl Print, m: MaybeIndex) -> io::Result<()> {
     match m {
-        MaybeIndex::Some(n) => number(n as u64),
-        MaybeIndex::Nothing => say(b"-"),
+        MaybeIndex::Some(n) => number(rt, n as u64),
+        MaybeIndex::Nothing => say(rt, b"-"),
     }
 }
 
-fn hazard(m: MaybeHazard) {
+fn hazard(rt: &impl Print, m: MaybeHazard) -> io::Result<()> {
     match m {
         MaybeHazard::Some(h) => {
             let n = h.number();
-            number(n as u64);
+            number(rt, n as u64)
         }
-        MaybeHazard::Nothing => say(b"-"),
+        MaybeHazard::Nothing => say(rt, b"-"),
     }
 }
 
 // ── An operation (PipelineSlotView) ─────────────────────────────────────────
 
-fn field(engine: ScoreboardPipeline, place: Place, f: Field)
+fn field(rt: &impl Print, engine: ScoreboardPipeline, place: Place, f: Field) -> io::Result<()>
     requires { Valid engine }
 {
     let mut out = [0u8; 64];
     let w = views::texts::slot_text(engine, place, f, &mut out);
-    told(w, &out);
+    told(rt, w, &out)
 }
 
-fn texts(engine: ScoreboardPipeline, place: Place)
+fn texts(rt: &impl Print, engine: ScoreboardPipeline, place: Place) -> io::Result<()>
     requires { Valid engine }
 {
-    field(engine, place, Field::Disassembly);
-    field(engine, place, Field::Destination);
-    field(engine, place, Field::Source(0));
-    field(engine, place, Field::Source(1));
+    field(rt, engine, place, Field::Disassembly)?;
+    field(rt, engine, place, Field::Destination)?;
+    field(rt, engine, place, Field::Source(0))?;
+    field(rt, engine, place, Field::Source(1))
 }
 
-fn numbers(s: PipelineSlotView) {
+fn numbers(rt: &impl Print, s: PipelineSlotView) -> io::Result<()> {
     let class = s.class;
     let wait = s.hazard;
-    number(s.address);
-    number(class.as_usize() as u64);
-    flag(s.bubble);
-    flag(s.speculative);
-    flag(s.predicted_taken);
-    hazard(wait);
-    flag(s.atomic);
-    number(s.cycles_remaining as u64);
+    number(rt, s.address)?;
+    number(rt, class.as_usize() as u64)?;
+    flag(rt, s.bubble)?;
+    flag(rt, s.speculative)?;
+    flag(rt, s.predicted_taken)?;
+    hazard(rt, wait)?;
+    flag(rt, s.atomic)?;
+    number(rt, s.cycles_remaining as u64)
 }
 
-fn slot(engine: ScoreboardPipeline, shown: MaybeSlot, place: Place)
+fn slot(
+    rt: &impl Print,
+    engine: ScoreboardPipeline,
+    shown: MaybeSlot,
+    place: Place,
+) -> io::Result<()>
     requires { Valid engine }
 {
     match shown {
         MaybeSlot::Some(s) => {
-            numbers(s);
-            texts(engine, place);
+            numbers(rt, s)?;
+            texts(rt, engine, place)?;
         }
-        MaybeSlot::Nothing => say(b"-"),
+        MaybeSlot::Nothing => say(rt, b"-")?,
     }
-    end();
+    end(rt)
 }
 
 // ── Views at an index: no line past the end ─────────────────────────────────
 
-fn stage(engine: ScoreboardPipeline, i: usize)
+fn stage(rt: &impl Print, engine: ScoreboardPipeline, i: usize) -> io::Result<()>
     requires { Valid engine }
 {
     let mut out = [0u8; 8];
@@ -141,16 +144,16 @@ fn stage(engine: ScoreboardPipeline, i: usize)
             let held = s.slot;
             let n = role.number();
             let w = views::texts::stage_name(i, &mut out);
-            io::write_all(1, b"stage");
-            told(w, &out);
-            number(n as u64);
-            slot(engine, held, Place::Stage(i));
+            rt.write_all(b"stage")?;
+            told(rt, w, &out)?;
+            number(rt, n as u64)?;
+            slot(rt, engine, held, Place::Stage(i))
         }
-        MaybeStage::Nothing => {}
+        MaybeStage::Nothing => Ok(())
     }
 }
 
-fn unit(engine: ScoreboardPipeline, i: usize)
+fn unit(rt: &impl Print, engine: ScoreboardPipeline, i: usize) -> io::Result<()>
     requires { Valid engine }
 {
     let mut out = [0u8; 8];
@@ -161,21 +164,28 @@ fn unit(engine: ScoreboardPipeline, i: usize)
             let first = k.first;
             let n = class.as_usize();
             let w = views::texts::unit_name(engine, i, &mut out);
-            io::write_all(1, b"unit");
-            told(w, &out);
+            rt.write_all(b"unit")?;
+            told(rt, w, &out)?;
             four(
+                rt,
                 k.capacity as u64,
                 k.active as u64,
                 n as u64,
                 k.latency as u64,
-            );
-            slot(engine, first, Place::Kind(i));
+            )?;
+            slot(rt, engine, first, Place::Kind(i))
         }
-        MaybeKind::Nothing => {}
+        MaybeKind::Nothing => Ok(())
     }
 }
 
-fn operand(engine: ScoreboardPipeline, station: usize, at: usize, shown: MaybeOperand)
+fn operand(
+    rt: &impl Print,
+    engine: ScoreboardPipeline,
+    station: usize,
+    at: usize,
+    shown: MaybeOperand,
+) -> io::Result<()>
     requires { Valid engine }
 {
     let mut out = [0u8; 16];
@@ -183,14 +193,14 @@ fn operand(engine: ScoreboardPipeline, station: usize, at: usize, shown: MaybeOp
         MaybeOperand::Some(o) => {
             let producer = o.producer;
             let w = views::texts::operand_register(engine, station, at, &mut out);
-            told(w, &out);
-            index(producer);
+            told(rt, w, &out)?;
+            index(rt, producer)
         }
-        MaybeOperand::Nothing => say(b"-"),
+        MaybeOperand::Nothing => say(rt, b"-"),
     }
 }
 
-fn station(engine: ScoreboardPipeline, i: usize)
+fn station(rt: &impl Print, engine: ScoreboardPipeline, i: usize) -> io::Result<()>
     requires { Valid engine }
 {
     let mut out = [0u8; 16];
@@ -204,20 +214,20 @@ fn station(engine: ScoreboardPipeline, i: usize)
             let operand_1 = s.operand_1;
             let n = phase.number();
             let w = views::texts::station_label(engine, i, &mut out);
-            io::write_all(1, b"station");
-            told(w, &out);
-            number(s.unit as u64);
-            number(n as u64);
-            index(tag);
-            operand(engine, i, 0, operand_0);
-            operand(engine, i, 1, operand_1);
-            slot(engine, held, Place::Station(i));
+            rt.write_all(b"station")?;
+            told(rt, w, &out)?;
+            number(rt, s.unit as u64)?;
+            number(rt, n as u64)?;
+            index(rt, tag)?;
+            operand(rt, engine, i, 0, operand_0)?;
+            operand(rt, engine, i, 1, operand_1)?;
+            slot(rt, engine, held, Place::Station(i))
         }
-        MaybeStation::Nothing => {}
+        MaybeStation::Nothing => Ok(())
     }
 }
 
-fn trace(engine: ScoreboardPipeline, i: usize)
+fn trace(rt: &impl Print, engine: ScoreboardPipeline, i: usize) -> io::Result<()>
     requires { Valid engine }
 {
     let mut out = [0u8; 256];
@@ -227,18 +237,18 @@ fn trace(engine: ScoreboardPipeline, i: usize)
             let kind = t.kind;
             let n = kind.number();
             let w = views::texts::trace_detail(engine, i, &mut out);
-            io::write_all(1, b"trace");
-            number(n as u64);
-            number(t.from_stage as u64);
-            number(t.to_stage as u64);
-            told(w, &out);
-            end();
+            rt.write_all(b"trace")?;
+            number(rt, n as u64)?;
+            number(rt, t.from_stage as u64)?;
+            number(rt, t.to_stage as u64)?;
+            told(rt, w, &out)?;
+            end(rt)
         }
-        MaybeTrace::Nothing => {}
+        MaybeTrace::Nothing => Ok(())
     }
 }
 
-fn rename(engine: ScoreboardPipeline, i: usize)
+fn rename(rt: &impl Print, engine: ScoreboardPipeline, i: usize) -> io::Result<()>
     requires { Valid engine }
 {
     let mut out = [0u8; 16];
@@ -246,26 +256,35 @@ fn rename(engine: ScoreboardPipeline, i: usize)
     match shown {
         MaybeOwed::Some(o) => {
             let w = views::texts::rename_register(engine, i, &mut out);
-            io::write_all(1, b"rename");
-            told(w, &out);
-            number(o.unit as u64);
-            end();
+            rt.write_all(b"rename")?;
+            told(rt, w, &out)?;
+            number(rt, o.unit as u64)?;
+            end(rt)
         }
-        MaybeOwed::Nothing => {}
+        MaybeOwed::Nothing => Ok(())
     }
 }
 
-fn queued(engine: ScoreboardPipeline, i: usize)
+fn queued(rt: &impl Print, engine: ScoreboardPipeline, i: usize) -> io::Result<()>
     requires { Valid engine }
 {
     let shown = views::claims::queued(engine, i);
-    if let MaybeSlot::Some(s) = shown {
-        io::write_all(1, b"queued");
-        slot(engine, shown, Place::Queue(i));
+    match shown {
+        MaybeSlot::Some(s) => {
+            rt.write_all(b"queued")?;
+            slot(rt, engine, MaybeSlot::Some(s), Place::Queue(i))
+        }
+        MaybeSlot::Nothing => Ok(()),
     }
 }
 
-fn cell(engine: ScoreboardPipeline, row: usize, i: usize, cells: &[u8])
+fn cell(
+    rt: &impl Print,
+    engine: ScoreboardPipeline,
+    row: usize,
+    i: usize,
+    cells: &[u8],
+) -> io::Result<()>
     requires { Valid engine }
 {
     let mut out = [0u8; 8];
@@ -277,25 +296,32 @@ fn cell(engine: ScoreboardPipeline, row: usize, i: usize, cells: &[u8])
             let n = state.number();
             let m = role.number();
             let w = views::texts::cell_label(engine, c.label as usize, &mut out);
-            told(w, &out);
-            number(n as u64);
-            number(m as u64);
+            told(rt, w, &out)?;
+            number(rt, n as u64)?;
+            number(rt, m as u64)
         }
-        _ => say(b"-"),
+        _ => say(rt, b"-"),
     }
 }
 
-fn row_cells(engine: ScoreboardPipeline, row: usize, n: usize, cells: &[u8])
+fn row_cells(
+    rt: &impl Print,
+    engine: ScoreboardPipeline,
+    row: usize,
+    n: usize,
+    cells: &[u8],
+) -> io::Result<()>
     requires { Valid engine }
 {
     let mut i: usize = 0;
     while i < n {
-        cell(engine, row, i, cells);
+        cell(rt, engine, row, i, cells)?;
         i += 1;
     }
+    Ok(())
 }
 
-fn row(engine: ScoreboardPipeline, i: usize, cells: &[u8])
+fn row(rt: &impl Print, engine: ScoreboardPipeline, i: usize, cells: &[u8]) -> io::Result<()>
     requires { Valid engine }
 {
     let mut out = [0u8; 64];
@@ -305,133 +331,141 @@ fn row(engine: ScoreboardPipeline, i: usize, cells: &[u8])
             let class = r.class;
             let n = class.as_usize();
             let w = views::texts::row_disassembly(engine, i, &mut out);
-            io::write_all(1, b"row");
-            four(r.address, n as u64, r.first_cycle, r.cells as u64);
-            flag(r.atomic);
-            told(w, &out);
-            row_cells(engine, i, r.cells as usize, cells);
-            end();
+            rt.write_all(b"row")?;
+            four(rt, r.address, n as u64, r.first_cycle, r.cells as u64)?;
+            flag(rt, r.atomic)?;
+            told(rt, w, &out)?;
+            row_cells(rt, engine, i, r.cells as usize, cells)?;
+            end(rt)
         }
-        MaybeRow::Nothing => {}
+        MaybeRow::Nothing => Ok(())
     }
 }
 
 // ── The engine as a whole ───────────────────────────────────────────────────
 
-fn status(engine: ScoreboardPipeline)
+fn status(rt: &impl Print, engine: ScoreboardPipeline) -> io::Result<()>
     requires { Valid engine }
 {
     let mut out = [0u8; 64];
     let s = views::status(engine);
     let w = views::texts::status_message(engine, &mut out);
-    io::write_all(1, b"status");
-    flag(s.enabled);
-    flag(s.sequential);
-    flag(s.halted);
-    flag(s.faulted);
-    told(w, &out);
-    end();
+    rt.write_all(b"status")?;
+    flag(rt, s.enabled)?;
+    flag(rt, s.sequential)?;
+    flag(rt, s.halted)?;
+    flag(rt, s.faulted)?;
+    told(rt, w, &out)?;
+    end(rt)
 }
 
-fn stats(engine: ScoreboardPipeline)
+fn stats(rt: &impl Print, engine: ScoreboardPipeline) -> io::Result<()>
     requires { Valid engine }
 {
     let c = views::stats(engine);
-    io::write_all(1, b"stats");
-    four(c.cycles, c.committed, c.stalls, c.raw_stalls);
+    rt.write_all(b"stats")?;
+    four(rt, c.cycles, c.committed, c.stalls, c.raw_stalls)?;
     four(
+        rt,
         c.load_use_stalls,
         c.branch_stalls,
         c.functional_unit_stalls,
         c.memory_stalls,
-    );
-    four(c.waw_stalls, c.war_stalls, c.flushes, c.branches);
-    end();
+    )?;
+    four(rt, c.waw_stalls, c.war_stalls, c.flushes, c.branches)?;
+    end(rt)
 }
 
-fn counts(engine: ScoreboardPipeline)
+fn counts(rt: &impl Print, engine: ScoreboardPipeline) -> io::Result<()>
     requires { Valid engine }
 {
-    io::write_all(1, b"counts");
-    number(views::kinds::unit_count(engine) as u64);
-    number(views::waits::trace_count(engine) as u64);
-    number(views::history::timeline_len(engine) as u64);
-    number(views::stations::station_count(engine) as u64);
-    number(views::claims::rename_count(engine) as u64);
-    number(views::claims::queue_count(engine) as u64);
-    end();
+    rt.write_all(b"counts")?;
+    number(rt, views::kinds::unit_count(engine) as u64)?;
+    number(rt, views::waits::trace_count(engine) as u64)?;
+    number(rt, views::history::timeline_len(engine) as u64)?;
+    number(rt, views::stations::station_count(engine) as u64)?;
+    number(rt, views::claims::rename_count(engine) as u64)?;
+    number(rt, views::claims::queue_count(engine) as u64)?;
+    end(rt)
 }
 
-fn questions(engine: ScoreboardPipeline)
+fn questions(rt: &impl Print, engine: ScoreboardPipeline) -> io::Result<()>
     requires { Valid engine }
 {
-    io::write_all(1, b"next");
-    flag(views::questions::enabled(engine));
-    number(views::questions::fetch_pc(engine));
-    number(views::questions::resume_pc(engine));
-    flag(views::questions::in_flight_before(engine, 1));
-    flag(views::questions::in_flight_before(engine, 2));
-    end();
+    rt.write_all(b"next")?;
+    flag(rt, views::questions::enabled(engine))?;
+    number(rt, views::questions::fetch_pc(engine))?;
+    number(rt, views::questions::resume_pc(engine))?;
+    flag(rt, views::questions::in_flight_before(engine, 1))?;
+    flag(rt, views::questions::in_flight_before(engine, 2))?;
+    end(rt)
 }
 
-fn show(state: &[u8], engine: ScoreboardPipeline, cells: &[u8])
+fn show(rt: &impl Print, state: &[u8], engine: ScoreboardPipeline, cells: &[u8]) -> io::Result<()>
     requires { Valid engine }
 {
-    io::write_all(1, state);
-    end();
-    status(engine);
-    stats(engine);
-    counts(engine);
-    questions(engine);
+    rt.write_all(state)?;
+    end(rt)?;
+    status(rt, engine)?;
+    stats(rt, engine)?;
+    counts(rt, engine)?;
+    questions(rt, engine)?;
     let mut i: usize = 0;
     while i < 6 {
-        stage(engine, i);
-        unit(engine, i);
-        station(engine, i);
-        trace(engine, i);
-        rename(engine, i);
-        queued(engine, i);
-        row(engine, i, cells);
+        stage(rt, engine, i)?;
+        unit(rt, engine, i)?;
+        station(rt, engine, i)?;
+        trace(rt, engine, i)?;
+        rename(rt, engine, i)?;
+        queued(rt, engine, i)?;
+        row(rt, engine, i, cells)?;
         i += 1;
     }
+    Ok(())
 }
 
 // What no engine changes.
 
-fn edge(e: PipelineEdge) {
+fn edge(rt: &impl Print, e: PipelineEdge) -> io::Result<()> {
     let kind = e.kind;
     let n = kind.number();
-    number(e.from as u64);
-    number(e.to as u64);
-    number(n as u64);
+    number(rt, e.from as u64)?;
+    number(rt, e.to as u64)?;
+    number(rt, n as u64)
 }
 
-fn edges() {
+fn edges(rt: &impl Print) -> io::Result<()> {
     let list = views::stages::edges();
-    io::write_all(1, b"edges");
-    edge(list.items[0]);
-    edge(list.items[1]);
-    edge(list.items[2]);
-    edge(list.items[3]);
-    edge(list.items[4]);
-    end();
+    rt.write_all(b"edges")?;
+    edge(rt, list.items[0])?;
+    edge(rt, list.items[1])?;
+    edge(rt, list.items[2])?;
+    edge(rt, list.items[3])?;
+    edge(rt, list.items[4])?;
+    end(rt)
 }
 
-fn orders() {
+fn orders(rt: &impl Print) -> io::Result<()> {
     let first = views::stages::entry_stages();
     let all = views::stages::stage_order();
     let of = views::claims::buffer_entry(0);
-    io::write_all(1, b"stages");
-    number(views::stages::stage_count() as u64);
-    number(first[0] as u64);
-    four(all[0] as u64, all[1] as u64, all[2] as u64, all[3] as u64);
-    number(all[4] as u64);
-    number(views::claims::buffer_count() as u64);
-    number(views::claims::buffer_capacity() as u64);
+    rt.write_all(b"stages")?;
+    number(rt, views::stages::stage_count() as u64)?;
+    number(rt, first[0] as u64)?;
+    four(
+        rt,
+        all[0] as u64,
+        all[1] as u64,
+        all[2] as u64,
+        all[3] as u64,
+    )?;
+    number(rt, all[4] as u64)?;
+    number(rt, views::claims::buffer_count() as u64)?;
+    number(rt, views::claims::buffer_capacity() as u64)?;
     if let MaybeSlot::Nothing = of {
-        say(b"-");
+        say(rt, b"-")?;
     }
-    end();
+    end(rt)
 }
 
 // ── The machine and its operations ──────────────────────────────────────────
@@ -543,38 +577,42 @@ fn run(engine: ScoreboardPipeline, cycles: usize, cells: &mut [u8]) -> Scoreboar
 }
 
 // Up to the offer: idle, rows evicted, a capacity noted.
-fn busy(engine: ScoreboardPipeline, cells: &mut [u8]) -> ScoreboardPipeline
+fn busy(
+    rt: &impl Print,
+    engine: ScoreboardPipeline,
+    cells: &mut [u8],
+) -> io::Result<ScoreboardPipeline>
     requires { Valid engine }
-    ensures { Valid result }
+    ensures { IfOk result (λ e. Valid e) }
 {
     let on = engine.set_enabled(true);
-    show(b"idle", on.engine, cells);
+    show(rt, b"idle", on.engine, cells)?;
     let e = run(on.engine, 5, cells);
-    show(b"evicted", e, cells);
+    show(rt, b"evicted", e, cells)?;
     let noted = run(e, 1, cells).set_capacity(0, 2);
-    show(b"noted", noted.engine, cells);
-    run(noted.engine, 1, cells)
+    show(rt, b"noted", noted.engine, cells)?;
+    Ok(run(noted.engine, 1, cells))
 }
 
 // From the offer on: halted, and built anew.
-fn stopped(engine: ScoreboardPipeline, cells: &mut [u8])
+fn stopped(rt: &impl Print, engine: ScoreboardPipeline, cells: &mut [u8]) -> io::Result<()>
     requires { Valid engine }
 {
     let offer = engine.start_cycle();
-    show(b"offer", offer.engine, cells);
+    show(rt, b"offer", offer.engine, cells)?;
     let settled = offer.engine.retire();
     let e = advanced(settled.engine, cells);
     let halted = run(e, 2, cells).halt();
-    show(b"halted", halted.engine, cells);
+    show(rt, b"halted", halted.engine, cells)?;
     let built = halted.engine.redirect(64);
-    show(b"built", built.engine, cells);
+    show(rt, b"built", built.engine, cells)
 }
 
-fn main() {
+fn main(rt: HostRuntime) -> io::Result<()> {
     let mut cells = [255u8; 400];
-    edges();
-    orders();
+    edges(&rt)?;
+    orders(&rt)?;
     let made = ScoreboardPipeline::new(machine(), 0, &mut cells);
-    let e = busy(made.engine, &mut cells);
-    stopped(e, &mut cells);
+    let e = busy(&rt, made.engine, &mut cells)?;
+    stopped(&rt, e, &mut cells)
 }
