@@ -6,20 +6,23 @@ ghost use Rattle.io.specs.Counts.{IsPrefixLen};
 ghost use Rattle.vectors.specs.Digest.{digest};
 
 use decoding::parts::number_at;
+use std::io::Read;
+use std::{fs, io};
 use traces::texts::{Written, write_label};
 
-fn told(w: Written, out: &[u8]) {
+fn told(rt: &impl Print, w: Written, out: &[u8]) -> io::Result<()> {
     if let Written::Bytes(n) = w {
         if n <= out.len() {
-            io::write_all(1, &out[..n]);
+            rt.write_all(&out[..n])?;
         }
     }
+    Ok(())
 }
 
-fn number(n: u64) {
+fn number(rt: &impl Print, n: u64) -> io::Result<()> {
     let mut out = [0u8; 21];
     let w = write_label(b" ", n as usize, &mut out);
-    told(w, &out);
+    told(rt, w, &out)
 }
 
 fn wide(x: u8) -> u64
@@ -41,7 +44,7 @@ fn digest(s: &[u8]) -> u64
 }
 
 // The digest of each block, the last one perhaps shorter.
-fn blocks(out: &[u8], block: usize)
+fn blocks(rt: &impl Print, out: &[u8], block: usize) -> io::Result<()>
     requires { 0 < block }
 {
     let mut at: usize = 0;
@@ -49,9 +52,10 @@ fn blocks(out: &[u8], block: usize)
         let left = out.len() - at;
         let n = if block < left { block } else { left };
         let end = at + n;
-        number(digest(&out[at..end]));
+        number(rt, digest(&out[at..end]))?;
         at = end;
     }
+    Ok(())
 }
 
 // How many bytes of a slice a number counts: at most all.
@@ -64,16 +68,17 @@ fn within(n: u64, s: &[u8]) -> usize
 }
 
 // The next 8 bytes of a file.
-fn next_number(fd: i32) -> u64 {
+fn next_number(file: &mut impl Read) -> io::Result<u64> {
     let mut bytes = [0u8; 8];
-    io::read_full(fd, &mut bytes);
-    number_at(&bytes, 0)
+    reading::read_full(file, &mut bytes)?;
+    Ok(number_at(&bytes, 0))
 }
 
 // Reads so many bytes.
-fn read_list(fd: i32, n: u64, list: &mut [u8]) {
+fn read_list(file: &mut impl Read, n: u64, list: &mut [u8]) -> io::Result<()> {
     let k = within(n, list);
-    io::read_full(fd, &mut list[..k]);
+    reading::read_full(file, &mut list[..k])?;
+    Ok(())
 }
 
 // Lends so many bytes of each.
@@ -84,41 +89,60 @@ fn play_part(list: &[u8], n: u64, cells: &mut [u8], c: u64, out: &mut [u8], o: u
     calls::calls_play(&list[..k], &mut cells[..i], &mut out[..j])
 }
 
-fn show(cells: &[u8], c: u64, out: &[u8], o: u64, block: u64) {
+fn show(rt: &impl Print, cells: &[u8], c: u64, out: &[u8], o: u64, block: u64) -> io::Result<()> {
     let i = within(c, cells);
-    number(digest(&cells[..i]));
+    number(rt, digest(&cells[..i]))?;
     let j = within(o, out);
     let b = block as usize;
     if 0 < b {
-        blocks(&out[..j], b);
+        blocks(rt, &out[..j], b)?;
     }
+    Ok(())
 }
 
-fn one(fd: i32) {
+fn no_list() -> [u8; 131072]
+    ensures { 131072 ≡ length result }
+{
+    [0u8; 131072]
+}
+
+fn no_cells() -> [u8; 51328]
+    ensures { 51328 ≡ length result }
+{
+    [19u8; 51328]
+}
+
+fn no_answers() -> [u8; 262144]
+    ensures { 262144 ≡ length result }
+{
+    [7u8; 262144]
+}
+
+fn one(rt: &impl Print, file: &mut impl Read) -> io::Result<()> {
     let mut name = [0u8; 16];
-    io::read_full(fd, &mut name);
-    let n = next_number(fd);
-    let c = next_number(fd);
-    let o = next_number(fd);
-    let block = next_number(fd);
-    let mut list = [0u8; 131072];
-    let mut cells = [19u8; 51328];
-    let mut out = [7u8; 262144];
-    read_list(fd, n, &mut list);
+    reading::read_full(file, &mut name)?;
+    let n = next_number(file)?;
+    let c = next_number(file)?;
+    let o = next_number(file)?;
+    let block = next_number(file)?;
+    let mut list = no_list();
+    let mut cells = no_cells();
+    let mut out = no_answers();
+    read_list(file, n, &mut list)?;
     let answer = play_part(&list, n, &mut cells, c, &mut out, o);
-    io::write_all(1, &name);
-    number(answer);
-    show(&cells, c, &out, o, block);
-    io::write_all(1, b"\n");
+    rt.write_all(&name)?;
+    number(rt, answer)?;
+    show(rt, &cells, c, &out, o, block)?;
+    rt.write_all(b"\n")
 }
 
-fn main() {
-    let fd = os::open_read(b"lists");
-    let count = next_number(fd);
+fn main(rt: HostRuntime) -> io::Result<()> {
+    let mut file = fs::open(&rt, "lists")?;
+    let count = next_number(&mut file)?;
     let mut i: u64 = 0;
     while i < count {
-        one(fd);
+        one(&rt, &mut file)?;
         i += 1;
     }
-    libc::close(fd);
+    Ok(())
 }
