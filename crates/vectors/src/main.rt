@@ -1,8 +1,7 @@
 // Plays each list of data/lists by `calls_play`, and prints what it answered and left (docs/COMPARISON.md). The file stdout has the Rust's answers.
 #![tactic(auto)]
 
-ghost use Rattle.std.specs.Prelude.{◌≡◌, ◌<◌, min, length};
-ghost use Rattle.io.specs.Counts.{IsPrefixLen};
+ghost use Rattle.std.specs.Prelude.{◌≡◌, ◌<◌, ◌≤◌, min, length, take};
 ghost use Rattle.vectors.specs.Digest.{digest};
 
 use decoding::parts::number_at;
@@ -58,9 +57,10 @@ fn blocks(rt: &impl Print, out: &[u8], block: usize) -> io::Result<()>
     Ok(())
 }
 
-// How many bytes of a slice a number counts: at most all.
+// How many bytes of a slice a number counts: at most all. (`most` and `part` follow from `value`; they are what lending that part asks.)
 fn within(n: u64, s: &[u8]) -> usize
-    ensures prefix_len { IsPrefixLen result s.now }
+    ensures most { result ≤ length s.now }
+    ensures part { result ≡ length (take result s.now) }
     ensures value { result ≡ min n (length s.now) }
 {
     let k = n as usize;

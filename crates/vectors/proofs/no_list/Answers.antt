@@ -1,0 +1,10 @@
+-- One byte, so many times.
+use Rattle.std.proofs.Common.{ℕ, ◌≡◌, sym, length, replicate}
+use Rattle.std.proofs.lemmas.List.{length-replicate}
+use Rattle.vectors.proofs.no_list.Goals as goal
+
+filled : (n b : ℕ) → n ≡ length (replicate n b)
+filled n b = sym (length-replicate n b)
+
+pub returns : goal.returns
+returns c = filled 131072 0
