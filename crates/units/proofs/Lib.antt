@@ -1,5 +1,4 @@
 pub mod Steps
 pub mod Pending
 pub mod Cases
-pub mod Walks
 pub mod OldestIs
