@@ -15,7 +15,7 @@ use Rattle.units.specs.declared.Unit.{Unit as Slot}
 use Rattle.units.specs.View.{view_unit, UnitOk, UnitIs}
 use Rattle.bank.specs.declared.Units.{Units}
 use Rattle.bank.specs.View.{view_units, places, UnitsOk, UnitsAre}
-use Rattle.bank.proofs.Steps.{room, places-length}
+use Rattle.bank.proofs.Steps.{places-length}
 
 -- ── The instances of a kind ─────────────────────────────────────────────────
 
