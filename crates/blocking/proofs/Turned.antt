@@ -4,8 +4,6 @@ use mathlib.Core.Path.{◌≡◌, refl, sym, subst, ap, ap₂, ◌∙◌}
 use mathlib.Core.Logic.{inl}
 use mathlib.Core.List.{List, [], ◌∷◌, ◌++◌, map}
 use native.Mathlib.Omega.{arith}
-use types.Run.{OneOf, miss}
-use denote.Enum.Declared.{tag_of}
 use lib.ListN.{length, get_or, drop}
 use Rattle.laws.specs.Optional.{value_or}
 use Rattle.laws.proofs.Slices.{slice-end, slice-next, view-next, All-seen}
@@ -27,7 +25,6 @@ use Rattle.writing.specs.declared.Blocked.TheVariants.{Free, War, Memory, Drain}
 use Rattle.writing.specs.declared.Turned.{Turned}
 use Rattle.writing.specs.declared.Tried.{Tried}
 use Rattle.writing.specs.View.{view_blocked, view_turned, turned_away, BlockedKnown, TurnedOk, TriedOk}
-use Rattle.writing.specs.contracts.Blocked as blocked
 use Rattle.telling.specs.Telling.{PlaceOf}
 use Rattle.telling.proofs.Tell.{Telling, telling-next}
 use Rattle.blocking.specs.Told.{Told}
@@ -35,12 +32,12 @@ use Rattle.blocking.specs.Told.{Told}
 -- ── One ─────────────────────────────────────────────────────────────────────
 
 -- Without a register's reader or an older access the reason is to drain.
-pub drain-left : (b : Blocked) → OneOf (0 ∷ 3 ∷ []) (tag_of blocked.the_type b) → value_or drain (view_blocked b) ≡ drain
+pub drain-left : (b : Blocked) → ((r j : ℕ) → b ≡ War r j → ⊥) → ((j : ℕ) → b ≡ Memory j → ⊥) → value_or drain (view_blocked b) ≡ drain
 unfolding view_blocked
-drain-left Free o = refl
-drain-left (War r j) o = absurd (miss (0 ∷ 3 ∷ []) 1 tt o)
-drain-left (Memory j) o = absurd (miss (0 ∷ 3 ∷ []) 2 tt o)
-drain-left Drain o = refl
+drain-left Free w m = refl
+drain-left (War r j) w m = absurd (w r j refl)
+drain-left (Memory j) w m = absurd (m j refl)
+drain-left Drain w m = refl
 
 module _ {us : Units} {t : Turned} {m : ℕ} (mine : PlaceOf us t.unit m) where
   pub told-war : {r j o : ℕ} → TurnedOk us t → PlaceOf us j o → t.blocked ≡ War r j
@@ -69,14 +66,14 @@ module _ {us : Units} {t : Turned} {m : ℕ} (mine : PlaceOf us t.unit m) where
             record { mine = mine.placed; other = other.placed; known = λ n a h. absurd (let z : ◌≡◌ {A = ℕ} 0 1 = cc in omega arith); other_form = refl };
       }
 
-  pub told-drain : OneOf (0 ∷ 3 ∷ []) (tag_of blocked.the_type t.blocked) → Told us t (record { form = Drains; mine = m; other = 80; number = 0 })
+  pub told-drain : ((r j : ℕ) → t.blocked ≡ War r j → ⊥) → ((j : ℕ) → t.blocked ≡ Memory j → ⊥) → Told us t (record { form = Drains; mine = m; other = 80; number = 0 })
   unfolding logs detail_of view_turned blocked_trace blocked_kind blocked_detail is_redirect names_register
-  told-drain k =
+  told-drain w o =
       record {
         is =
             λ f target.
             ap (λ x. trace_of FunctionalUnitBusy READ WRITE (drains x)) (mine.is f.legend)
-            ∙ ap (λ (b : Reason). blocked_trace (view_units f.legend us) f.names (t.unit, b)) (sym (drain-left t.blocked k));
+            ∙ ap (λ (b : Reason). blocked_trace (view_units f.legend us) f.names (t.unit, b)) (sym (drain-left t.blocked w o));
         from =
             record { mine = mine.placed; other = inl refl; known = λ n a h. absurd (let z : ◌≡◌ {A = ℕ} 0 1 = cc in omega arith); other_form = refl };
       }
