@@ -6,18 +6,12 @@ use Rattle.flight.specs.declared.pool.Decoded.{Decoded}
 use Rattle.flight.specs.View.{view_hazard, op_with, view_queued}
 use Rattle.occupants.specs.View.{view_slot}
 use Rattle.occupants.proofs.Held.{carried-address, carried-atomic}
-use borrow.Author.Rules.{rules}
-use Rattle.occupants.proofs.slot_view.Statement.{statement}
-use Rattle.occupants.proofs.slot_view.Tie as tie
+use Rattle.occupants.proofs.slot_view.Goals as goal
 
-at-requires : tie.Need-at-requires
-at-requires c κs = search rules
-
-returns : tie.Need-returns
+pub returns : goal.returns
 unfolding view_slot slot_view view_queued op_with
-returns c =
-    let s = c.before.args in
-    let e = c.at.ensures in
+returns c = let s = c.args in
+    let e = c.at-d.ensures in
     λ ts ns.
     ap₂ (λ (a : ℕ) (t : Bool). record {
       address = a;
@@ -31,6 +25,3 @@ returns c =
     })
     (ap (λ (d : Decoded). d.address) e ∙ carried-address s.decoded ts ns s.op.place)
     (ap (λ (d : Decoded). d.atomic) e ∙ carried-atomic s.decoded ts ns s.op.place)
-
-pub slot-view-spec : {M : Type 1} → statement M
-slot-view-spec = tie.close (tie.spec at-requires returns)
