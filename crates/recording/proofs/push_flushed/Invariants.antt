@@ -1,0 +1,15 @@
+use Prim.Native.Nat.{◌-◌}
+use mathlib.Core.Path.{refl}
+use native.Mathlib.Omega.{arith}
+use Rattle.model.specs.Issue.{flushed_cell}
+use Rattle.flight.specs.View.{view_queued, op_with}
+use Rattle.flight.proofs.Entries.{queue-next}
+use Rattle.recording.proofs.Pushes.{Pushing, pushing-first, pushing-next, pushing-same, pushing-last, queue-left, queue-more, queue-done}
+use borrow.Author.Rules.{rules}
+use Rattle.recording.proofs.push_flushed.Given as goal
+
+abbrev pub invariant-loop-i : goal.invariant-loop-i
+invariant-loop-i l = Pushing (queue-left flushed_cell l.queue) l.window l.initial.ts l.initial.fs l.initial.cells l.ts l.fs l.cells l.i
+
+abbrev pub decreases-loop-i : goal.decreases-loop-i
+decreases-loop-i l = l.n - l.i
