@@ -13,7 +13,7 @@ while [ "$done" -lt "$count" ]; do
     from=$((seed + done))
     "$harness" sample "$from" "$lists" crates/samples >/dev/null
     status=0
-    rt dev samples >out 2>&1 || status=$?
+    (cd crates/samples && rt check) >out 2>&1 || status=$?
     bad=$(grep -oE 'Sampled\.antt:[0-9:]+ error: `agrees-[0-9]+`.*' out || true)
     if [ "$status" -ne 0 ] && [ -z "$bad" ]; then
         cat out

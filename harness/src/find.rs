@@ -63,12 +63,12 @@ fn claims(case: &Case, folder: &Path, number: Option<usize>) -> io::Result<()> {
     fs::create_dir_all(&lists)?;
     let (place, before, own) = match number {
         None => (
-            "place (numbers-of case-1) (case-1 .numbers)",
+            "place (numbers_of case_1) (case_1.numbers)",
             case.steps.len(),
             0..0,
         ),
-        Some(0) => ("place (making case-1) expected", 0, 0..0),
-        Some(n) => ("place (behind case-1 case-2) expected", n - 1, n - 1..n),
+        Some(0) => ("place (making case_1) expected", 0, 0..0),
+        Some(n) => ("place (behind case_1 case_2) expected", n - 1, n - 1..n),
     };
     let first = file_of(1, case, &case.steps[..before]);
     fs::write(lists.join("List1.antt"), first)?;
@@ -90,7 +90,7 @@ fn bits(place: &str, expected: &[u64]) -> String {
             file,
             "
 bit-{bit} : eqb ({place} / {} % 2) 1 ≡ true
-unfolding everything digest lists-of-calls place cycles calls-of answers played step behind making expected
+unfolding everything digest lists_of_calls place cycles calls_of answers played step behind making expected
 bit-{bit} = refl
 ",
             1 << bit
@@ -100,20 +100,20 @@ bit-{bit} = refl
 }
 
 const PLACE: &str = "-- On the bits of the place of the first difference.
-use Prim.Native.Nat.{ℕ, zero, suc, _/_, _%_}
-use mathlib.Core.Path.{_≡_, refl}
+use Prim.Native.Nat.{ℕ, zero, suc, ◌/◌, ◌%◌}
+use mathlib.Core.Path.{◌≡◌, refl}
 use mathlib.Core.Bool.{true, cond}
 use mathlib.Core.Option.{none}
-use mathlib.Core.List.{List, [], _∷_, _++_}
+use mathlib.Core.List.{List, [], ◌∷◌, ◌++◌}
 use lib.Dec.{eqb}
 use lib.ListN.{replicate}
-use Rattle·model.specs.State.{State, new}
-use Rattle·model.specs.Calls.{Call, start, advance, after, memory-after, make-memory, runs, memories}
-use Rattle·model.specs.Everything.{everything}
-use Rattle·samples·specs.specs.Digest.{digest, call-numbers, everything-shown}
-use Rattle·samples·specs.specs.Lists.{Step, shown, quiet, idle, rest, Case, all-shown, numbers-of, lists-of-calls}
-use Rattle·samples·specs.specs.Sample.List1.{case-1}
-use Rattle·samples·specs.specs.Sample.List2.{case-2}
+use Rattle.model.specs.State.{State, new}
+use Rattle.model.specs.Calls.{Call, start, advance, after, memory_after, make_memory, runs, memories}
+use Rattle.model.specs.Everything.{everything}
+use Rattle.samples.specs.Digest.{digest, call_numbers, everything_shown}
+use Rattle.samples.specs.Lists.{Step, shown, quiet, idle, rest, Case, all_shown, numbers_of, lists_of_calls}
+use Rattle.samples.specs.Sample.List1.{case_1}
+use Rattle.samples.specs.Sample.List2.{case_2}
 
 place : List ℕ → List ℕ → ℕ
 place [] ys = 0
@@ -124,39 +124,39 @@ cycles : ℕ → ℕ → List Call
 cycles zero lent = []
 cycles (suc n) lent = start ∷ advance none lent ∷ cycles n lent
 
-calls-of : List Step → List Call
-calls-of [] = []
-calls-of (shown c ∷ cs) = c ∷ calls-of cs
-calls-of (quiet c ∷ cs) = c ∷ calls-of cs
-calls-of (idle n lent ∷ cs) = cycles n lent ++ calls-of cs
-calls-of (rest ∷ cs) = calls-of cs
+calls_of : List Step → List Call
+calls_of [] = []
+calls_of (shown c ∷ cs) = c ∷ calls_of cs
+calls_of (quiet c ∷ cs) = c ∷ calls_of cs
+calls_of (idle n lent ∷ cs) = cycles n lent ++ calls_of cs
+calls_of (rest ∷ cs) = calls_of cs
 
 answers : State → List ℕ → List Call → List ℕ → List ℕ
 answers s m [] l = l
-answers s m (c ∷ cs) l = call-numbers s m c (answers (after s c) (memory-after s c m) cs l)
+answers s m (c ∷ cs) l = call_numbers s m c (answers (after s c) (memory_after s c m) cs l)
 
 played : State → List ℕ → List Call → List ℕ
-played s m cs = answers s m cs (everything-shown (runs s cs) (memories s m cs) [])
+played s m cs = answers s m cs (everything_shown (runs s cs) (memories s m cs) [])
 
 step : State → List ℕ → List Step → List ℕ
 step s m [] = []
 step s m (shown c ∷ cs) = played s m (c ∷ [])
-step s m (quiet c ∷ cs) = call-numbers s m c []
+step s m (quiet c ∷ cs) = call_numbers s m c []
 step s m (idle n lent ∷ cs) = played s m (cycles n lent)
-step s m (rest ∷ cs) = all-shown s m []
+step s m (rest ∷ cs) = all_shown s m []
 
 made : Case → State
-made c = new (c .shape) (c .entry)
+made c = new c.shape c.entry
 
-lent-memory : Case → List ℕ
-lent-memory c = make-memory (c .shape) (replicate (c .lent) 7)
+lent_memory : Case → List ℕ
+lent_memory c = make_memory c.shape (replicate c.lent 7)
 
 -- The list behind a number: the steps before it, and its own.
 behind : Case → Case → List ℕ
-unfolding made lent-memory
-behind b c = step (runs (made b) (calls-of (b .steps))) (memories (made b) (lent-memory b) (calls-of (b .steps))) (c .steps)
+unfolding made lent_memory
+behind b c = step (runs (made b) (calls_of b.steps)) (memories (made b) (lent_memory b) (calls_of b.steps)) c.steps
 
 making : Case → List ℕ
-unfolding made lent-memory
-making c = 1 ∷ all-shown (made c) (lent-memory c) []
+unfolding made lent_memory
+making c = 1 ∷ all_shown (made c) (lent_memory c) []
 ";

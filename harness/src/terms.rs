@@ -13,7 +13,7 @@ pub fn shape(machine: &Machine) -> String {
     let [a, m, d, l, s, y, f] = machine.extras;
     let kinds: Vec<String> = machine.kinds.iter().map(kind).collect();
     format!(
-        "pipeline-shape {} {} (timing {a} {m} {d} {l} {s} {y} {f}) {} {}",
+        "pipeline_shape {} {} (timing {a} {m} {d} {l} {s} {y} {f}) {} {}",
         term_list(&stages),
         maybe(machine.instruction_bytes.map(|n| n.to_string())),
         term_list(&kinds),
@@ -24,7 +24,7 @@ pub fn shape(machine: &Machine) -> String {
 fn kind(kind: &Kind) -> String {
     let classes: Vec<String> = kind.classes.iter().map(|c| format!("{c:?}")).collect();
     format!(
-        "unit-spec {} {} {:?} {}",
+        "unit_spec {} {} {:?} {}",
         text(&kind.name),
         term_list(&classes),
         kind.latency_class,
@@ -117,55 +117,55 @@ fn view(view: View) -> String {
         View::Status => ("status", None),
         View::Stats => ("stats", None),
         View::Enabled => ("enabled", None),
-        View::FetchPc => ("fetch-pc", None),
-        View::ResumePc => ("resume-pc", None),
-        View::StageCount => ("stage-count", None),
+        View::FetchPc => ("fetch_pc", None),
+        View::ResumePc => ("resume_pc", None),
+        View::StageCount => ("stage_count", None),
         View::Edges => ("edges", None),
-        View::EntryStages => ("entry-stages", None),
-        View::StageOrder => ("stage-order", None),
-        View::UnitCount => ("unit-count", None),
-        View::TraceCount => ("trace-count", None),
-        View::TimelineLen => ("timeline-len", None),
-        View::StationCount => ("station-count", None),
-        View::RenameCount => ("rename-count", None),
-        View::QueueCount => ("queue-count", None),
-        View::BufferCount => ("buffer-count", None),
-        View::BufferCapacity => ("buffer-capacity", None),
-        View::InFlightBefore(number) => ("in-flight-before", Some(number)),
+        View::EntryStages => ("entry_stages", None),
+        View::StageOrder => ("stage_order", None),
+        View::UnitCount => ("unit_count", None),
+        View::TraceCount => ("trace_count", None),
+        View::TimelineLen => ("timeline_len", None),
+        View::StationCount => ("station_count", None),
+        View::RenameCount => ("rename_count", None),
+        View::QueueCount => ("queue_count", None),
+        View::BufferCount => ("buffer_count", None),
+        View::BufferCapacity => ("buffer_capacity", None),
+        View::InFlightBefore(number) => ("in_flight_before", Some(number)),
         View::Stage(at) => ("stage", Some(at)),
         View::Unit(at) => ("unit", Some(at)),
         View::Trace(at) => ("trace", Some(at)),
-        View::TimelineRow(at) => ("timeline-row", Some(at)),
+        View::TimelineRow(at) => ("timeline_row", Some(at)),
         View::Station(at) => ("station", Some(at)),
         View::Rename(at) => ("rename", Some(at)),
         View::Queued(at) => ("queued", Some(at)),
-        View::BufferEntry(at) => ("buffer-entry", Some(at)),
+        View::BufferEntry(at) => ("buffer_entry", Some(at)),
     };
     at.map_or(name.to_string(), |at| format!("({name} {at})"))
 }
 
 fn request(request: Request) -> String {
     match request {
-        Request::StatusMessage => "status-message".to_string(),
-        Request::Slot(at, of) => format!("(slot-text {} {})", place(at), field(of)),
-        Request::TraceDetail(at) => format!("(trace-detail {at})"),
-        Request::RowDisassembly(at) => format!("(row-disassembly {at})"),
-        Request::StageName(at) => format!("(stage-name {at})"),
-        Request::UnitName(at) => format!("(unit-name {at})"),
-        Request::StationLabel(at) => format!("(station-label {at})"),
-        Request::RenameRegister(at) => format!("(rename-register {at})"),
-        Request::CellLabel(label) => format!("(cell-label {label})"),
-        Request::OperandRegister(at, operand) => format!("(operand-register {at} {operand})"),
+        Request::StatusMessage => "status_message".to_string(),
+        Request::Slot(at, of) => format!("(slot_text {} {})", place(at), field(of)),
+        Request::TraceDetail(at) => format!("(trace_detail {at})"),
+        Request::RowDisassembly(at) => format!("(row_disassembly {at})"),
+        Request::StageName(at) => format!("(stage_name {at})"),
+        Request::UnitName(at) => format!("(unit_name {at})"),
+        Request::StationLabel(at) => format!("(station_label {at})"),
+        Request::RenameRegister(at) => format!("(rename_register {at})"),
+        Request::CellLabel(label) => format!("(cell_label {label})"),
+        Request::OperandRegister(at, operand) => format!("(operand_register {at} {operand})"),
     }
 }
 
 fn place(place: Place) -> String {
     match place {
-        Place::Queue(at) => format!("(in-queue {at})"),
-        Place::Station(at) => format!("(in-station {at})"),
-        Place::Stage(at) => format!("(in-stage {at})"),
-        Place::Unit(at) => format!("(in-unit {at})"),
-        Place::Offer => "on-offer".to_string(),
+        Place::Queue(at) => format!("(in_queue {at})"),
+        Place::Station(at) => format!("(in_station {at})"),
+        Place::Stage(at) => format!("(in_stage {at})"),
+        Place::Unit(at) => format!("(in_unit {at})"),
+        Place::Offer => "on_offer".to_string(),
     }
 }
 

@@ -85,14 +85,12 @@ fn files(cases: &[Case], folder: &Path) -> io::Result<()> {
 const MADE: &str = "Made by the harness: see docs/SAMPLES.md.";
 
 /// Names that a list's file may use, by module.
-const NAMES: [(&str, &[&str]); 10] = [
-    ("Prim.Native.Nat", &["ℕ"]),
-    ("mathlib.Core.Bool", &["true", "false"]),
-    ("mathlib.Core.Option", &["none", "some"]),
-    ("mathlib.Core.List", &["List", "[]", "_∷_"]),
-    ("Rattle·laws.specs.Texts", &["bytes"]),
+const NAMES: [(&str, &[&str]); 8] = [
+    ("Rattle.std.specs.Prelude", &["ℕ", "true", "false", "List", "[]", "◌∷◌"]),
+    ("Rattle.std.proofs.Math.Option", &["none", "some"]),
+    ("Rattle.laws.specs.Texts", &["bytes"]),
     (
-        "Rattle·capability.specs.declared.PipelineInstructionClass.the-variants",
+        "Rattle.capability.specs.declared.PipelineInstructionClass.TheVariants",
         &[
             "Alu",
             "Multiply",
@@ -107,63 +105,63 @@ const NAMES: [(&str, &[&str]); 10] = [
         ],
     ),
     (
-        "Rattle·model.specs.Config",
-        &["timing", "unit-spec", "PipelineShape", "pipeline-shape"],
+        "Rattle.model.specs.Config",
+        &["timing", "unit_spec", "PipelineShape", "pipeline_shape"],
     ),
     (
-        "Rattle·model.specs.Requests",
+        "Rattle.model.specs.Requests",
         &[
-            "in-queue",
-            "in-station",
-            "in-stage",
-            "in-unit",
-            "on-offer",
+            "in_queue",
+            "in_station",
+            "in_stage",
+            "in_unit",
+            "on_offer",
             "disassembly",
             "destination",
             "fault as fault-note",
             "source",
             "write",
-            "status-message",
-            "slot-text",
-            "trace-detail",
-            "row-disassembly",
-            "stage-name",
-            "unit-name",
-            "station-label",
-            "rename-register",
-            "cell-label",
-            "operand-register",
+            "status_message",
+            "slot_text",
+            "trace_detail",
+            "row_disassembly",
+            "stage_name",
+            "unit_name",
+            "station_label",
+            "rename_register",
+            "cell_label",
+            "operand_register",
         ],
     ),
     (
-        "Rattle·model.specs.Calls",
+        "Rattle.model.specs.Calls",
         &[
             "status",
             "stats",
             "enabled",
-            "fetch-pc",
-            "resume-pc",
-            "stage-count",
+            "fetch_pc",
+            "resume_pc",
+            "stage_count",
             "edges",
-            "entry-stages",
-            "stage-order",
-            "unit-count",
-            "trace-count",
-            "timeline-len",
-            "station-count",
-            "rename-count",
-            "queue-count",
-            "buffer-count",
-            "buffer-capacity",
-            "in-flight-before",
+            "entry_stages",
+            "stage_order",
+            "unit_count",
+            "trace_count",
+            "timeline_len",
+            "station_count",
+            "rename_count",
+            "queue_count",
+            "buffer_count",
+            "buffer_capacity",
+            "in_flight_before",
             "stage",
             "unit",
             "trace",
-            "timeline-row",
+            "timeline_row",
             "station",
             "rename",
             "queued",
-            "buffer-entry",
+            "buffer_entry",
             "start",
             "retire",
             "retry",
@@ -182,9 +180,9 @@ const NAMES: [(&str, &[&str]); 10] = [
         ],
     ),
     (
-        "Rattle·samples·specs.specs.Lists",
+        "Rattle.samples.specs.Lists",
         &[
-            "Step", "shown", "quiet", "rest", "Case", "case-of", "op", "idle",
+            "Step", "shown", "quiet", "rest", "Case", "case_of", "op", "idle",
         ],
     ),
 ];
@@ -201,10 +199,10 @@ pub fn file_of(number: usize, case: &Case, some: &[Step]) -> String {
     let _ = writeln!(body, "steps =\n{}\n", steps(some));
     let _ = writeln!(body, "abbrev numbers : List ℕ");
     let _ = writeln!(body, "numbers =\n{}\n", number_list(&case.numbers()));
-    let _ = writeln!(body, "abbrev pub case-{number} : Case");
+    let _ = writeln!(body, "abbrev pub case_{number} : Case");
     let _ = writeln!(
         body,
-        "case-{number} = case-of shape {} {} steps numbers",
+        "case_{number} = case_of shape {} {} steps numbers",
         machine.entry, machine.lent
     );
     let words: BTreeSet<&str> = body
@@ -217,7 +215,7 @@ pub fn file_of(number: usize, case: &Case, some: &[Step]) -> String {
             .iter()
             .filter(|name| {
                 let word = name.rsplit(' ').next().expect("a name");
-                word == "_∷_" || words.contains(word)
+                word == "◌∷◌" || words.contains(word)
             })
             .copied()
             .collect();
@@ -225,7 +223,7 @@ pub fn file_of(number: usize, case: &Case, some: &[Step]) -> String {
     }
     if body.contains("role.") {
         file.push_str(
-            "use Rattle·capability.specs.declared.PipelineStageRole.the-variants as role\n",
+            "use Rattle.capability.specs.declared.PipelineStageRole.TheVariants as role\n",
         );
     }
     file.push('\n');
@@ -252,15 +250,15 @@ fn uses(file: &mut String, module: &str, names: &[&str]) {
 
 fn collection(count: usize) -> String {
     let mut file = format!("-- The lists of the sample. {MADE}\n");
-    file.push_str("use mathlib.Core.List.{List, [], _∷_}\n");
-    file.push_str("use Rattle·samples·specs.specs.Lists.{Case}\n");
+    file.push_str("use Rattle.std.specs.Prelude.{List, [], ◌∷◌}\n");
+    file.push_str("use Rattle.samples.specs.Lists.{Case}\n");
     for number in 1..=count {
-        let _ = writeln!(file, "use List{number}.{{case-{number}}}");
+        let _ = writeln!(file, "use List{number}.{{case_{number}}}");
     }
     for number in 1..=count {
         let _ = writeln!(file, "pub mod List{number}");
     }
-    let cases: Vec<String> = (1..=count).map(|n| format!("case-{n}")).collect();
+    let cases: Vec<String> = (1..=count).map(|n| format!("case_{n}")).collect();
     file.push_str("\nabbrev pub sample : List Case\nsample =\n");
     file.push_str(&joined(&cases));
     file.push('\n');
@@ -272,28 +270,28 @@ fn proof(count: usize) -> String {
         "-- The model answers and shows what the Rust does, over the whole sample. {MADE}\n"
     );
     file.push_str(
-        "use mathlib.Core.Path.{_≡_, refl}
+        "use mathlib.Core.Path.{◌≡◌, refl}
 use mathlib.Core.Bool.{true}
-use Rattle·laws.specs.Lists.{all}
-use Rattle·model.specs.Everything.{everything}
-use Rattle·samples·specs.specs.Digest.{digest}
-use Rattle·samples·specs.specs.Lists.{agrees, lists-of-calls}
-use Rattle·samples·specs.specs.Sample.{sample}
-use Rattle·samples·proofs.proofs.Tests.{all-true}
+use Rattle.laws.specs.Lists.{all}
+use Rattle.model.specs.Everything.{everything}
+use Rattle.samples.specs.Digest.{digest}
+use Rattle.samples.specs.Lists.{agrees, lists_of_calls}
+use Rattle.samples.specs.Sample.{sample}
+use Rattle.samples.proofs.Tests.{all_true}
 ",
     );
     for number in 1..=count {
         let _ = writeln!(
             file,
-            "use Rattle·samples·specs.specs.Sample.List{number}.{{case-{number}}}"
+            "use Rattle.samples.specs.Sample.List{number}.{{case_{number}}}"
         );
     }
     for number in 1..=count {
         let _ = write!(
             file,
             "
-agrees-{number} : agrees case-{number} ≡ true
-unfolding everything digest lists-of-calls
+agrees-{number} : agrees case_{number} ≡ true
+unfolding everything digest lists_of_calls
 agrees-{number} = refl
 "
         );
@@ -302,7 +300,7 @@ agrees-{number} = refl
         .rev()
         .fold("tt".to_string(), |rest, n| format!("(agrees-{n}, {rest})"));
     file.push_str(
-        "\npub sampled : all agrees sample ≡ true\nsampled =\n    all-true agrees sample\n",
+        "\npub sampled : all agrees sample ≡ true\nsampled =\n    all_true agrees sample\n",
     );
     wrap(&mut file, &mut all);
     file
