@@ -3,8 +3,8 @@
 //!
 //! It stands in the folder that RAVEN_SRC names, or else in ../shared/docs/src/crates/raven-engine/src
 //! as seen from the repository's root. The archive is libcalls.a in the folder that WELDERPEONY_LIB
-//! names, or else in target/staticlib, where `rt staticlib calls` puts it. Without it all is built but
-//! what compares and measures.
+//! names, or else in target/staticlib: `rt lib` in crates/calls_c makes it as out/libcalls_c.a, and it is
+//! copied there under its own name. Without it all is built but what compares and measures.
 
 use std::path::{Path, PathBuf};
 use std::{env, fs};
