@@ -1,0 +1,17 @@
+-- A row where one is shown; else nothing.
+use mathlib.Core.Path.{refl, sym, ap, subst}
+use Rattle.model.specs.Forecast.{lent_of}
+use Rattle.pages.specs.Shown.{FewCells, shown_row_text}
+use Rattle.pages.proofs.Laid.{laid_as, laid-empty}
+use borrow.Author.Rules.{rules}
+use Rattle.pages.proofs.put_nth_row.Goals as goal
+
+pub returns-in-Some : goal.returns-in-Some
+unfolding shown_row_text
+returns-in-Some c = let a = c.args in
+    λ s e. laid_as (sym (ap (shown_row_text (lent_of s a.cells.now)) c.in-Some.is)) (c.put_row.ensures s e)
+
+pub returns-in-Nothing : goal.returns-in-Nothing
+unfolding shown_row_text
+returns-in-Nothing c = let a = c.args in
+    λ s e. laid-empty (ap (shown_row_text (lent_of s a.cells.now)) c.in-Nothing.is) refl refl
