@@ -17,22 +17,34 @@ note o = text o || when_some (view_maybe_text o.fault) false (bad_text 64)
 abbrev destination : PipelineOp → Bool
 destination o = note o || when_some (view_maybe_name o.destination) false (bad_text 16)
 
+note-no : (o : PipelineOp) {a b : Bool} → a ≡ text o → a ≡ false → b ≡ when_some (view_maybe_text o.fault) false (bad_text 64) → b ≡ false
+    → note o ≡ false
+note-no o p p' q q' = or_no (sym p ∙ p') (sym q ∙ q')
+
+destination-no : (o : PipelineOp) {d : Bool} → note o ≡ false → d ≡ when_some (view_maybe_name o.destination) false (bad_text 16) → d ≡ false
+    → destination o ≡ false
+destination-no o n r r' = or_no n (sym r ∙ r')
+
 pub returns-then-is_bad : goal.returns-then-is_bad
 unfolding bad_info view_op
 returns-then-is_bad c = sym (or_yes _ (or_yes _ (or_yes _ (or_yes _ (sym c.is_bad.ensures ∙ c.if-is_bad.true)))))
 
 pub returns-then-is_bad-2 : goal.returns-then-is_bad-2
 unfolding bad_info view_op
-returns-then-is_bad-2 c = sym (or_yes _ (or_yes _ (or_yes _ (or-next _ (let here : text c.args.self ≡ false = sym c.is_bad.ensures ∙ c.if-is_bad.false in here) ∙ sym c.is_bad-2.ensures ∙ c.if-is_bad-2.true))))
+returns-then-is_bad-2 c = sym (or_yes _ (or_yes _ (or_yes _ (or-next _ (sym c.is_bad.ensures ∙ c.if-is_bad.false) ∙ sym c.is_bad-2.ensures ∙ c.if-is_bad-2.true))))
 
 pub returns-then-is_bad-3 : goal.returns-then-is_bad-3
 unfolding bad_info view_op
-returns-then-is_bad-3 c = sym (or_yes _ (or_yes _ (or-next _ (let here : note c.args.self ≡ false = or_no (let here : text c.args.self ≡ false = sym c.is_bad.ensures ∙ c.if-is_bad.false in here) (sym c.is_bad-2.ensures ∙ c.if-is_bad-2.false) in here) ∙ sym c.is_bad-3.ensures ∙ c.if-is_bad-3.true)))
+returns-then-is_bad-3 c = let n = note-no c.args.self c.is_bad.ensures c.if-is_bad.false c.is_bad-2.ensures c.if-is_bad-2.false in
+    sym (or_yes _ (or_yes _ (or-next _ n ∙ sym c.is_bad-3.ensures ∙ c.if-is_bad-3.true)))
 
 pub returns-then-sources_bad : goal.returns-then-sources_bad
 unfolding bad_info view_op
-returns-then-sources_bad c = sym (or_yes _ (or-next _ (let here : destination c.args.self ≡ false = or_no (let here : note c.args.self ≡ false = or_no (let here : text c.args.self ≡ false = sym c.is_bad.ensures ∙ c.if-is_bad.false in here) (sym c.is_bad-2.ensures ∙ c.if-is_bad-2.false) in here) (sym c.is_bad-3.ensures ∙ c.if-is_bad-3.false) in here) ∙ sym c.sources_bad.ensures ∙ c.if-sources_bad.true))
+returns-then-sources_bad c = let n = note-no c.args.self c.is_bad.ensures c.if-is_bad.false c.is_bad-2.ensures c.if-is_bad-2.false in
+    sym (or_yes _ (or-next _ (destination-no c.args.self n c.is_bad-3.ensures c.if-is_bad-3.false) ∙ sym c.sources_bad.ensures ∙ c.if-sources_bad.true))
 
 pub returns : goal.returns
 unfolding bad_info view_op
-returns c = c.writes_bad.ensures ∙ sym (or-next _ (or_no (let here : destination c.args.self ≡ false = or_no (let here : note c.args.self ≡ false = or_no (let here : text c.args.self ≡ false = sym c.is_bad.ensures ∙ c.if-is_bad.false in here) (sym c.is_bad-2.ensures ∙ c.if-is_bad-2.false) in here) (sym c.is_bad-3.ensures ∙ c.if-is_bad-3.false) in here) (sym c.sources_bad.ensures ∙ c.if-sources_bad.false)))
+returns c = let n = note-no c.args.self c.is_bad.ensures c.if-is_bad.false c.is_bad-2.ensures c.if-is_bad-2.false in
+    let d = destination-no c.args.self n c.is_bad-3.ensures c.if-is_bad-3.false in
+    c.writes_bad.ensures ∙ sym (or-next _ (or_no d (sym c.sources_bad.ensures ∙ c.if-sources_bad.false)))
