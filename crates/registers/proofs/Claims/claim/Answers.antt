@@ -6,8 +6,14 @@ use Rattle.registers.proofs.Claims.claim.Goals as goal
 
 pub returns-then-register-self : goal.returns-then-register-self
 unfolding claim
-returns-then-register-self c = record { after = claims-set c.requires.claims_ok (λ (old : Option ℕ). some c.args.unit) c.args.unit c.if-register-self.true (claimed-some c.requires.unit_bound); before = c.producer-before.ensures }
+returns-then-register-self c = record {
+  after = claims-set c.requires.claims_ok (λ (old : Option ℕ). some c.args.unit) c.args.unit c.if-register-self.true (claimed-some c.requires.unit_bound);
+  before = c.producer-before.ensures;
+}
 
 pub returns : goal.returns
 unfolding claim
-returns c = record { after = claims-past c.requires.claims_ok (λ (old : Option ℕ). some c.args.unit) c.if-register-self.false; before = c.producer-before.ensures }
+returns c = record {
+  after = claims-past c.requires.claims_ok (λ (old : Option ℕ). some c.args.unit) c.if-register-self.false;
+  before = c.producer-before.ensures;
+}

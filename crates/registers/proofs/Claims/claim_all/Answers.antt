@@ -7,7 +7,8 @@ use Rattle.registers.proofs.Claims.claim_all.Goals as goal
 
 pub loop-i-preserved : goal.loop-i-preserved
 unfolding claim_all
-loop-i-preserved c = taking-next c.loop-i.invariant (claim c.args.unit) (λ ps q qs. refl) (slice-next c.args.registers 0 (omega arith) c.loop-i-test.true) c.claim-one.ensures.after
+loop-i-preserved c = taking-next c.loop-i.invariant (claim c.args.unit) (λ ps q qs. refl)
+    (slice-next c.args.registers 0 (omega arith) c.loop-i-test.true) c.claim-one.ensures.after
 
 pub returns : goal.returns
 unfolding claim_all

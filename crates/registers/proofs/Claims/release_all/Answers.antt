@@ -7,7 +7,8 @@ use Rattle.registers.proofs.Claims.release_all.Goals as goal
 
 pub loop-i-preserved : goal.loop-i-preserved
 unfolding release_all
-loop-i-preserved c = taking-next c.loop-i.invariant (release c.args.unit) (λ ps q qs. refl) (slice-next c.args.registers 0 (omega arith) c.loop-i-test.true) c.release-c.ensures
+loop-i-preserved c = taking-next c.loop-i.invariant (release c.args.unit) (λ ps q qs. refl)
+    (slice-next c.args.registers 0 (omega arith) c.loop-i-test.true) c.release-c.ensures
 
 pub returns : goal.returns
 unfolding release_all

@@ -8,10 +8,12 @@ use Rattle.registers.proofs.Claims.taken.Goals as goal
 
 pub returns-then-is_claimed : goal.returns-then-is_claimed
 unfolding view_maybe_index
-returns-then-is_claimed c = scan-stop c.loop-i.invariant (slice-next c.args.registers 0 (omega arith) c.loop-i-test.true) (taken-hit _ _ (sym c.is_claimed.ensures ∙ c.if-is_claimed.true))
+returns-then-is_claimed c = scan-stop c.loop-i.invariant (slice-next c.args.registers 0 (omega arith) c.loop-i-test.true)
+    (taken-hit _ _ (sym c.is_claimed.ensures ∙ c.if-is_claimed.true))
 
 pub loop-i-preserved : goal.loop-i-preserved
-loop-i-preserved c = scan-next c.loop-i.invariant (slice-next c.args.registers 0 (omega arith) c.loop-i-test.true) (taken-miss _ _ (sym c.is_claimed.ensures ∙ c.if-is_claimed.false))
+loop-i-preserved c = scan-next c.loop-i.invariant (slice-next c.args.registers 0 (omega arith) c.loop-i-test.true)
+    (taken-miss _ _ (sym c.is_claimed.ensures ∙ c.if-is_claimed.false))
 
 pub returns : goal.returns
 unfolding view_maybe_index

@@ -11,7 +11,10 @@ use Rattle.registers.proofs.Numbering.{numbering-next, numbering-last, numbering
 use Rattle.registers.proofs.RegisterTable.intern_all.Goals as goal
 
 pub intern-one-requires : goal.intern-one-requires
-intern-one-requires c = record { table_ok = c.loop-i.invariant.0; name_ok = All-seen Short _ c.requires.all (view-next view_name c.args.names spare (omega arith) c.loop-i-test.true) }
+intern-one-requires c = record {
+  table_ok = c.loop-i.invariant.0;
+  name_ok = All-seen Short _ c.requires.all (view-next view_name c.args.names spare (omega arith) c.loop-i-test.true);
+}
 
 pub returns-then-one : goal.returns-then-one
 returns-then-one c = let v = c.loop-i.invariant in
