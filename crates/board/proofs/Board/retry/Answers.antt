@@ -13,24 +13,17 @@ use Rattle.board.specs.Promises.{queue_places}
 use Rattle.board.proofs.Parts.{state-by, alike_self, looks-kept}
 use Rattle.board.proofs.Vacancy.{empty_back}
 use Rattle.board.proofs.Knowing.{knows-kept, knows-modify, busy-knows}
-use Rattle.board.proofs.Board.retry.Statement.{statement}
-use Rattle.board.proofs.Board.retry.Tie as tie
+use Rattle.board.proofs.Board.retry.Goals as goal
 
-set-busy-requires : tie.Need-set-busy-requires
-set-busy-requires c κs = let s = c.before in (s.requires.0.units, s.requires.0.offer s.requires.1.0)
-
-returns : tie.Need-returns
+pub returns : goal.returns
 unfolding boards view_log view_traces view_trace view_maybe_text retry put_back claimed queue_places
-returns c =
-    let d = c.before.before in
-    let s = d.before.before in
-    let b = s.args.self in
-    let ok = s.requires.0 in
-    let e = d.set-busy.ensures in
+returns c = let b = c.args.self in
+    let ok = c.requires.board_ok in
+    let e = c.set_busy-us.ensures in
     record {
       is =
           λ x. state-by
-          (e.is x.legend ∙ sym (ap (λ o. put_back o (view_units x.legend b.units)) (claimed-some s.requires.1.0)))
+          (e.is x.legend ∙ sym (ap (λ o. put_back o (view_units x.legend b.units)) (claimed-some c.requires.writing_bound)))
           refl refl refl refl refl refl refl;
       ok =
           record {
@@ -39,7 +32,7 @@ returns c =
             claims = ok.claims;
             log = ok.log;
             offer = λ h. omega arith;
-            status = λ t. s.requires.1.1;
+            status = λ t. c.requires.len_bound;
             gone = ok.gone;
             knows =
                 knows-kept b.claims.len b.units e
@@ -53,11 +46,8 @@ returns c =
             queue = refl;
             gone = refl;
             waits = refl;
-            vacant = empty_back ok.units (ok.offer s.requires.1.0) e 64;
+            vacant = empty_back ok.units (ok.offer c.requires.writing_bound) e 64;
             looks = λ x. looks-kept x b _ refl (alike_self b.queue);
             known = refl;
           };
     }
-
-pub retry-spec : {M : Type 1} → statement M
-retry-spec = tie.close (tie.spec set-busy-requires returns)

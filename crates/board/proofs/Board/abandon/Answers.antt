@@ -18,32 +18,18 @@ use Rattle.board.specs.Promises.{queue_places}
 use Rattle.board.proofs.Parts.{state-by, claims-kept, names-kept, log-names}
 use Rattle.board.proofs.Knowing.{knows-kept, knows-map, clear-knows}
 use Rattle.board.proofs.Vacancy.{none-placed}
-use borrow.Author.Rules.{rules}
-use Rattle.board.proofs.Board.abandon.Statement.{statement}
-use Rattle.board.proofs.Board.abandon.Tie as tie
-
-clear-requires : tie.Need-clear-requires
-clear-requires c κs = search rules
-
-flushed-requires : tie.Need-flushed-requires
-flushed-requires c κs = search rules
-
-clear-claims-requires : tie.Need-clear-claims-requires
-clear-claims-requires c κs = search rules
+use Rattle.board.proofs.Board.abandon.Goals as goal
 
 abbrev nobody : Option ℕ → Option ℕ
 nobody p = none
 
-returns : tie.Need-returns
+pub returns : goal.returns
 unfolding view_board abandon claimed queue_places
-returns c =
-    let d = c.before.before.before.before.before in
-    let s = d.before.before.before.before.before.before in
-    let b = s.args.self in
-    let ok = s.requires in
-    let e = d.before.before.clear.ensures in
-    let f = d.before.flushed.ensures in
-    let h = d.clear-claims.ensures in
+returns c = let b = c.args.self in
+    let ok = c.requires in
+    let e = c.clear-us.ensures in
+    let f = c.flushed-q.ensures in
+    let h = c.clear_claims-c.ensures in
     let k = claims-kept ok.claims h (length-of nobody (view_claims b.claims)) in
     record {
       is =
@@ -59,7 +45,7 @@ returns c =
             status = ok.status;
             gone = ok.gone;
             knows =
-                subst (λ n. All (UnitKnows n) (slots d.before.before.clear.result)) (sym k)
+                subst (λ n. All (UnitKnows n) (slots c.clear-us.result)) (sym k)
                 (knows-kept b.claims.len b.units e (λ g. knows-map b.claims.len clear (clear-knows b.claims.len) (view_units g b.units)) ok.knows);
             known = subst (λ n. All (Known n) (listed b.log.traces)) (sym k) ok.known;
           };
@@ -67,9 +53,6 @@ returns c =
       queue = ap (map (λ (x : Queued). x.place)) f.entries;
       gone = refl;
       waits = refl;
-      vacant = none-placed d.before.before.clear.result b.units.len e.places 64;
+      vacant = none-placed c.clear-us.result b.units.len e.places 64;
       known = k;
     }
-
-pub abandon-spec : {M : Type 1} → statement M
-abandon-spec = tie.close (tie.spec clear-requires flushed-requires clear-claims-requires returns)

@@ -1,6 +1,6 @@
 use mathlib.Core.Path.{◌≡◌, refl, sym, subst, ap, ap₂, ◌∙◌}
 use mathlib.Core.Logic.{inl}
-use mathlib.Core.Option.{Option, none}
+use mathlib.Core.Option.{Option}
 use mathlib.Core.List.{[], ◌∷◌, ◌++◌, map}
 use Prim.Native.Nat.{ℕ}
 use native.Mathlib.Omega.{arith}
@@ -26,24 +26,7 @@ use Rattle.board.specs.View.{known_names, log_frame, board_of, boards}
 use Rattle.board.specs.Promises.{queue_places, placing, Names, unit_places, with_frame_rows, Redirects}
 use Rattle.board.proofs.Parts.{state-by, frame-with, no-status, alike_self, looks-kept}
 use Rattle.board.proofs.Counting.{dropped-apart}
-use borrow.Author.Rules.{rules}
-use Rattle.board.proofs.Sequencer.redirected.Statement.{statement}
-use Rattle.board.proofs.Sequencer.redirected.Tie as tie
-
-none-requires : tie.Need-none-requires
-none-requires c κs = search rules
-
-enum-known-redirect : tie.Need-enum-known-redirect
-enum-known-redirect c = search rules
-
-redirected-requires : tie.Need-redirected-requires
-redirected-requires c κs = search rules
-
-flushed-requires : tie.Need-flushed-requires
-flushed-requires c κs = search rules
-
-enum_told : tie.Need-enum-told
-enum_told c = search rules
+use Rattle.board.proofs.Sequencer.redirected.Goals as goal
 
 redirects-so : {b r : Board} {t u : Option ℕ} → t ≡ u → Redirects b r t → Redirects b r u
 redirects-so {b} {r} e = subst (Redirects b r) e
@@ -52,30 +35,27 @@ redirect-known : (n : ℕ) → Known n redirect_trace
 unfolding names_register
 redirect-known n e = absurd (let z : ◌≡◌ {A = ℕ} 0 1 = cc in omega arith)
 
-returns : tie.Need-returns
+pub returns-in-Some : goal.returns-in-Some
 unfolding boards view_log view_traces view_trace view_maybe_number redirected flush clear_status queue_places
-returns c us ok =
-    let g = c.before.before.before.before.before.redirect in
-    let z = c.before.before.before.before.before.before.before in
-    let s = z.before in
-    let b = board_of s.args.self us in
-    let f = c.flushed.ensures in
-    let h = c.before.redirected.ensures in
+returns-in-Some c = λ us ok.
+    let b = board_of c.args.self us in
+    let f = c.flushed-q.ensures in
+    let h = c.redirected-l.ensures in
     let n = b.claims.len in
-    redirects-so (sym (ap view_maybe_number g.given.1))
+    redirects-so (sym (ap view_maybe_number c.in-Some.is))
     (record {
       is =
           λ x.
           let q = view_queue x.legend b.queue in
           let rows = push_all (map flushed_cell q) x.rows in
           state-by refl (f.is x.legend) refl refl refl refl refl
-          (h.is (frame-with (with_frame_rows rows x) (known_names x b) (view_maybe_text z.none.result))
+          (h.is (frame-with (with_frame_rows rows x) (known_names x b) (view_maybe_text c.none-status.result))
           ∙ ap₂
           (λ k m.
           log_of (count_flush k (view_stats b.log.stats))
-          (view_traces (log_frame x b) b.log.traces ++ trace_of BranchFlush WRITE FETCH (redirect_to g.given.0.0) ∷ []) rows m)
+          (view_traces (log_frame x b) b.log.traces ++ trace_of BranchFlush WRITE FETCH (redirect_to c.in-Some.target) ∷ []) rows m)
           (sym (queue-length ok.queue x.legend))
-          z.none.ensures);
+          c.none-status.ensures);
       step =
           record {
             ok =
@@ -85,7 +65,7 @@ returns c us ok =
                   claims = ok.claims;
                   log = h.ok;
                   offer = ok.offer;
-                  status = no-status _ z.none.ensures;
+                  status = no-status _ c.none-status.ensures;
                   gone = ok.gone;
                   knows = ok.knows;
                   known =
@@ -114,17 +94,15 @@ returns c us ok =
       known = refl;
     })
 
-returns-2 : tie.Need-returns-2
+pub returns-in_default : goal.returns-in_default
 unfolding boards view_log view_traces view_trace view_maybe_number redirected clear_status placing
-returns-2 c us ok =
-    let z = c.before.before in
-    let s = z.before in
-    let b = board_of s.args.self us in
-    redirects-so (sym (ap view_maybe_number c.enum_told.given.1))
+returns-in_default c = λ us ok.
+    let b = board_of c.args.self us in
+    redirects-so (sym (ap view_maybe_number c.in_default.is))
     (record {
       is =
           λ x. state-by refl refl refl refl refl refl refl
-          (ap (λ m. log_of (view_stats b.log.stats) (view_traces (log_frame x b) b.log.traces) x.rows m) z.none.ensures);
+          (ap (λ m. log_of (view_stats b.log.stats) (view_traces (log_frame x b) b.log.traces) x.rows m) c.none-status.ensures);
       step =
           record {
             ok =
@@ -134,7 +112,7 @@ returns-2 c us ok =
                   claims = ok.claims;
                   log = ok.log;
                   offer = ok.offer;
-                  status = no-status _ z.none.ensures;
+                  status = no-status _ c.none-status.ensures;
                   gone = ok.gone;
                   knows = ok.knows;
                   known = ok.known;
@@ -149,15 +127,3 @@ returns-2 c us ok =
       dropped = λ t e. none-some t e;
       known = refl;
     })
-
-pub redirected-spec : {M : Type 1} → statement M
-redirected-spec =
-    tie.close
-    (tie.spec
-    none-requires
-    enum-known-redirect
-    redirected-requires
-    flushed-requires
-    enum_told
-    returns
-    returns-2)

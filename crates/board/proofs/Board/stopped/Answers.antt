@@ -1,6 +1,6 @@
 use mathlib.Core.Path.{ap, ap₂, ◌∙◌}
 use mathlib.Core.Bool.{◌||◌}
-use mathlib.Core.Logic.{inl, inr, ⊎_elim}
+use mathlib.Core.Logic.{inl, inr}
 use mathlib.Core.Option.{some}
 use Rattle.model.specs.State.{with_front, with_log, with_stopped, with_status}
 use Rattle.model.specs.Write.{abandon, stopped}
@@ -9,32 +9,23 @@ use Rattle.stalls.specs.View.{view_trace, view_traces, view_log}
 use Rattle.board.specs.View.{view_board, boards}
 use Rattle.board.specs.Promises.{queue_places}
 use Rattle.board.proofs.Parts.{or-joined}
-use borrow.Author.Rules.{rules}
-use Rattle.board.proofs.Board.stopped.Statement.{statement}
-use Rattle.board.proofs.Board.stopped.Tie as tie
+use Rattle.board.proofs.Board.stopped.Goals as goal
+use Rattle.board.proofs.Board.stopped.Goals.{then-halts, else-halts, then-faults, else-faults}
 
-abandon-requires : tie.Need-abandon-requires
-abandon-requires c κs = search rules
-
-returns : tie.Need-returns
+pub returns : goal.returns
 unfolding boards view_log view_traces view_trace view_maybe_text abandon stopped queue_places
-returns c =
-    let j = c.before in
-    let i = c.before.before.before in
-    let d = i.before in
-    let s = d.before in
-    let e = d.abandon.ensures in
-    let b = d.abandon.result in
-    let t = view_text s.args.note in
+returns c = let e = c.abandon-b.ensures in
+    let b = c.abandon-b.result in
+    let t = view_text c.args.note in
     record {
       is =
           λ x. ap₂ (λ h f. with_log (with_status (some t) (view_board x b).log) (with_front (with_stopped h f (view_board x b).front) (view_board x b)))
-          (or-joined (⊎_elim (λ w. inl (w.0.taken, w.1)) (λ w. inr (w.0.left, w.1)) i.if1.branch))
-          (or-joined (⊎_elim (λ w. inl (w.0.taken, w.1)) (λ w. inr (w.0.left, w.1)) j.if2.branch))
+          (or-joined (elim c.if-halts.branch [ then-halts w ↦ inl (w.if-halts.true, w.b-is) | else-halts w ↦ inr (w.if-halts.false, w.b-is) ]))
+          (or-joined (elim c.if-faults.branch [ then-faults w ↦ inl (w.if-faults.true, w.b-is) | else-faults w ↦ inr (w.if-faults.false, w.b-is) ]))
           ∙ ap
           (λ v.
           with_log (with_status (some t) v.log)
-          (with_front (with_stopped (s.args.halts || v.front.halted) (s.args.faults || v.front.faulted) v.front) v))
+          (with_front (with_stopped (c.args.halts || v.front.halted) (c.args.faults || v.front.faulted) v.front) v))
           (e.is x);
       ok =
           record {
@@ -43,7 +34,7 @@ returns c =
             claims = e.ok.claims;
             log = e.ok.log;
             offer = e.ok.offer;
-            status = λ q. s.requires.1;
+            status = λ q. c.requires.len_bound;
             gone = e.ok.gone;
             knows = e.ok.knows;
             known = e.ok.known;
@@ -55,6 +46,3 @@ returns c =
       vacant = e.vacant;
       known = e.known;
     }
-
-pub stopped-spec : {M : Type 1} → statement M
-stopped-spec = tie.close (tie.spec abandon-requires returns)

@@ -6,23 +6,17 @@ use Rattle.stalls.specs.View.{view_traces, view_stats, view_log}
 use Rattle.board.specs.View.{log_frame, board_of, boards}
 use Rattle.board.specs.Promises.{queue_places}
 use Rattle.board.proofs.Parts.{state-by, alike_self, looks-kept}
-use borrow.Author.Rules.{rules}
-use Rattle.board.proofs.Sequencer.retire.Statement.{statement}
-use Rattle.board.proofs.Sequencer.retire.Tie as tie
+use Rattle.board.proofs.Sequencer.retire.Goals as goal
 
-count-retired-requires : tie.Need-count-retired-requires
-count-retired-requires c κs = search rules
-
-returns : tie.Need-returns
+pub returns : goal.returns
 unfolding boards view_log retire queue_places
-returns c us ok w k =
-    let s = c.before.before.before.before in
-    let b = board_of s.args.self us in
+returns c = λ us ok w k.
+    let b = board_of c.args.self us in
     record {
       is =
           λ x. state-by refl refl refl refl refl refl refl
           (ap (λ a. log_of a (view_traces (log_frame x b) b.log.traces) x.rows (view_maybe_text b.status))
-          (c.before.count_retired.ensures ∙ ap (λ t. count_retired t (view_stats b.log.stats)) (k x)));
+          (c.count_retired-counted.ensures ∙ ap (λ t. count_retired t (view_stats b.log.stats)) (k x)));
       ok =
           record {
             units = ok.units;
@@ -46,6 +40,3 @@ returns c us ok w k =
             known = refl;
           };
     }
-
-pub retire-spec : {M : Type 1} → statement M
-retire-spec = tie.close (tie.spec count-retired-requires returns)

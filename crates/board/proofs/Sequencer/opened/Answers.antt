@@ -17,25 +17,17 @@ use Rattle.board.specs.Promises.{queue_places}
 use Rattle.board.proofs.Parts.{state-by, alike-hazards, looks-kept}
 use Rattle.board.proofs.Knowing.{knows-kept, knows-map, clear_hazard-knows}
 use Rattle.board.proofs.Vacancy.{clear_hazard-busy, empty-map}
-use borrow.Author.Rules.{rules}
-use Rattle.board.proofs.Sequencer.opened.Statement.{statement}
-use Rattle.board.proofs.Sequencer.opened.Tie as tie
+use Rattle.board.proofs.Sequencer.opened.Goals as goal
 
-clear-hazards-requires : tie.Need-clear-hazards-requires
-clear-hazards-requires c κs = let s = c.before.before.before.before.before in record { size = s.requires.0; ok = s.requires.1.units }
-
-returns : tie.Need-returns
+pub returns : goal.returns
 unfolding boards view_log open_cycle queue_places
-returns c =
-    let d = c.before.before in
-    let m = d.before.before.before.before.before in
-    let s = m.before.before.before.before.before.before in
-    let b = board_of s.args.self (units_of s.args.us.now s.args.ss.now s.args.n) in
-    let ok = s.requires.1 in
-    let e = m.clear-hazards.ensures.are in
-    let f = d.before.clear-hazards2.ensures in
-    let h = d.opened.ensures in (
-      record {
+returns c = let b = board_of c.args.self (units_of c.args.us.now c.args.ss.now c.args.n) in
+    let ok = c.requires.board_ok in
+    let e = c.clear_hazards.ensures.are in
+    let f = c.clear_hazards-q.ensures in
+    let h = c.opened-l.ensures in
+    record {
+      is = record {
         is = λ x. state-by (e.is x.legend) (f.is x.legend) refl refl refl refl refl (h.is (log_frame x b));
         ok =
             record {
@@ -60,10 +52,6 @@ returns c =
         offer = refl;
         looks = λ x. looks-kept x b _ refl (alike-hazards b.queue f);
         known = refl;
-      },
-      m.clear-hazards.ensures.size,
-    )
-
-pub opened-spec : {M : Type 1} → statement M
-opened-spec =
-    tie.close (tie.spec clear-hazards-requires (λ c κs. search rules) (λ c κs. search rules) (λ c. search rules) (λ c. search rules) returns)
+      };
+      size = c.clear_hazards.ensures.size;
+    }

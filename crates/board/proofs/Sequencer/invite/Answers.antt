@@ -5,24 +5,17 @@ use Rattle.slots.specs.View.{units_of}
 use Rattle.board.specs.View.{board_of, boards}
 use Rattle.board.specs.Promises.{queue_places}
 use Rattle.board.proofs.Parts.{state-by, alike_self, looks-kept}
-use borrow.Author.Rules.{rules}
-use Rattle.board.proofs.Sequencer.invite.Statement.{statement}
-use Rattle.board.proofs.Sequencer.invite.Tie as tie
+use Rattle.board.proofs.Sequencer.invite.Goals as goal
 
-may-fetch-requires : tie.Need-may-fetch-requires
-may-fetch-requires c κs = search rules
-
-returns : tie.Need-returns
+pub returns : goal.returns
 unfolding boards invite queue_places
-returns c =
-    let s = c.before.before.before in
-    let b = board_of s.args.self (units_of s.args.us.now s.args.ss.now s.args.n) in
-    let ok = s.requires.1 in
+returns c = let b = board_of c.args.self (units_of c.args.us.now c.args.ss.now c.args.n) in
+    let ok = c.requires.board_ok in
     record {
       is =
           λ x e. state-by refl refl refl refl refl refl
           (ap (λ i. front_of b.front.enabled b.front.halted b.front.faulted b.front.in_cycle i b.fetch_pc x.next x.next)
-          (c.before.may_fetch.ensures x e))
+          (c.may_fetch-invited.ensures x e))
           refl;
       ok =
           record {
@@ -47,6 +40,3 @@ returns c =
             known = refl;
           };
     }
-
-pub invite-spec : {M : Type 1} → statement M
-invite-spec = tie.close (tie.spec may-fetch-requires returns)
