@@ -19,9 +19,7 @@ use Rattle.slots.specs.View.{units_of}
 use Rattle.board.specs.declared.Board.{Board}
 use Rattle.issuing.specs.declared.Way.TheVariants.{Blocked, Into}
 use Rattle.issuing.specs.Steps.{Chooses}
-use borrow.Author.Rules.{rules}
-use Rattle.issuing.proofs.way_looked.Statement.{statement}
-use Rattle.issuing.proofs.way_looked.Tie as tie
+use Rattle.issuing.proofs.way_looked.Goals as goal
 
 module _ {b : Board} {q : Queued} {m : Machine} where
   still : {k : ℕ} → taken (view_claims b.claims) (written q.operands) ≡ some k → Chooses b q m (Blocked StillWrites k)
@@ -58,63 +56,21 @@ module _ {b : Board} {q : Queued} {m : Machine} where
         into = λ j h. record { taken = e; free = λ g. u g ∙ ap some (let z : i ≡ j = cc in z) };
       }
 
-taken-requires : tie.Need-taken-requires
-taken-requires c κs = search rules
-
-enum-known-taken : tie.Need-enum-known-taken
-enum-known-taken c = search rules
-
-returns : tie.Need-returns
+pub returns-in-Some : goal.returns-in-Some
 unfolding view_maybe_index
-returns c =
-    let t = c.before.before.before in
-    still (sym t.taken.ensures ∙ ap view_maybe_index c.before.taken2.given.1)
+returns-in-Some c = still (sym c.taken-taken.ensures ∙ ap view_maybe_index c.in-Some.is)
 
-enum_told : tie.Need-enum-told
-enum_told c = search rules
+pub overflow_cast-spec : goal.overflow_cast-spec
+overflow_cast-spec c = record { fits = omega (arith, c.spec_index-spec.ensures, index-there c.requires.machine_ok c.args.front.class, c.requires.machine_ok.few) }
 
-spec-index-requires : tie.Need-spec-index-requires
-spec-index-requires c κs = search rules
-
-cast-spec : tie.Need-overflow-cast-spec
-cast-spec c =
-    let s = c.before.before.before.before.before.before.before.before in
-    record { fits = omega (arith, c.spec_index.ensures, index-there s.requires.1.1.1 s.args.front.class, s.requires.1.1.1.few) }
-
-free-unit-requires : tie.Need-free-unit-requires
-free-unit-requires c κs = record { size = search rules; ok = search rules }
-
-returns-2 : tie.Need-returns-2
+pub returns-then-at-lt64 : goal.returns-then-at-lt64
 unfolding view_maybe_index
-returns-2 c =
-    let d = c.before in
-    let i = d.before in
-    let t = i.before.before.before in
-    let s = t.before.before.before.before.before in
-    free (sym t.taken.ensures ∙ ap view_maybe_index i.before.enum_told.given.1)
+returns-then-at-lt64 c = free (sym c.taken-taken.ensures ∙ ap view_maybe_index c.in_default.is)
     (λ g.
-    ap (λ k. find_at (is_free k) 0 (view_units g (units_of s.args.us.now s.args.ss.now s.args.n))) (sym i.spec_index.ensures) ∙ sym (d.free_unit.ensures g)
-    ∙ claimed-some c.if1.true)
+    ap (λ k. find_at (is_free k) 0 (view_units g (units_of c.args.us.now c.args.ss.now c.args.n))) (sym c.spec_index-spec.ensures) ∙ sym (c.free_unit-at.ensures g)
+    ∙ claimed-some c.if-at-lt64.true)
 
-returns-3 : tie.Need-returns-3
+pub returns-else-at-lt64 : goal.returns-else-at-lt64
 unfolding view_maybe_index
-returns-3 c =
-    let d = c.before in
-    let i = d.before in
-    let t = i.before.before.before in
-    full (sym t.taken.ensures ∙ ap view_maybe_index i.before.enum_told.given.1) i.spec_index.ensures
-    (λ g. sym (d.free_unit.ensures g) ∙ claimed-none c.if1.false)
-
-pub way-looked-spec : {M : Type 1} → statement M
-way-looked-spec =
-    tie.close
-    (tie.spec
-    taken-requires
-    enum-known-taken
-    returns
-    enum_told
-    spec-index-requires
-    cast-spec
-    free-unit-requires
-    returns-2
-    returns-3)
+returns-else-at-lt64 c = full (sym c.taken-taken.ensures ∙ ap view_maybe_index c.in_default.is) c.spec_index-spec.ensures
+    (λ g. sym (c.free_unit-at.ensures g) ∙ claimed-none c.if-at-lt64.false)

@@ -16,39 +16,32 @@ use Rattle.board.specs.View.{board_of, boards}
 use Rattle.board.proofs.Parts.{state-by}
 use Rattle.issuing.proofs.Looking.{pad-count, all-below, through-most, knows_more, known_more, log-more}
 use mir.Syntax.{w8}
-use borrow.Author.Rules.{rules, elem_fits_field}
-use Rattle.issuing.proofs.looked.Statement.{statement}
-use Rattle.issuing.proofs.looked.Tie as tie
+use borrow.Author.Rules.{elem_Fits}
+use Rattle.issuing.proofs.looked.Goals as goal
 
-through-requires : tie.Need-through-requires
-through-requires c κs = search rules
-
-padded-requires : tie.Need-padded-requires
-padded-requires c κs =
-    let a = c.before.before.before in
-    let x = a.args.front.operands in
-    let f = a.well-formed.1.0.1.1.1.0.1.1 in
-    let r = all-below 256 x.sources (λ i. (elem_fits_field w8 w8 x.sources _ i f.0.1.1 tt).fits) in
-    let w = all-below 256 x.destinations (λ i. (elem_fits_field w8 w8 x.destinations _ i f.1.0.1.1 tt).fits) in
+pub padded-c-requires : goal.padded-c-requires
+padded-c-requires c =
+    let x = c.args.front.operands in
+    let f = c.well_formed.1.0.1.1.1.0.1.1 in
+    let r = all-below 256 x.sources (λ i. (elem_Fits w8 w8 x.sources _ i f.0.1.1 tt).fits) in
+    let w = all-below 256 x.destinations (λ i. (elem_Fits w8 w8 x.destinations _ i f.1.0.1.1 tt).fits) in
     let m =
     through-most 256 (numbers x)
     (All-append (λ (k : ℕ). k < 256) (read x) (written x) (All-take (λ (k : ℕ). k < 256) x.sources_len x.sources r)
     (All-take (λ (k : ℕ). k < 256) x.destinations_len x.destinations w))
     in
-    (a.requires.0, omega (arith, m, c.through.ensures))
+    record { claims_ok = c.requires.claims_ok; len_bound = omega (arith, m, c.through.ensures) }
 
-returns : tie.Need-returns
+pub returns : goal.returns
 unfolding boards
-returns c us ok =
-    let d = c.before in
-    let s = d.before.before.before in
-    let b = board_of s.args.board us in
-    let h = c.padded.ensures in
-    let t = d.through.ensures in
+returns c = λ us ok.
+    let b = board_of c.args.board us in
+    let h = c.padded-c.ensures in
+    let t = c.through.ensures in
     let k =
-    sym (claims-length h.ok) ∙ ap length h.is ∙ pad-count (view_claims b.claims) d.through.result [] ∙ ap₂ max (claims-length ok.claims) t
+    sym (claims-length h.ok) ∙ ap length h.is ∙ pad-count (view_claims b.claims) c.through.result [] ∙ ap₂ max (claims-length ok.claims) t
     in
-    let more : b.claims.len ≤ c.padded.result.len = omega (arith, k) in
+    let more : b.claims.len ≤ c.padded-c.result.len = omega (arith, k) in
     record {
       claims = h.is ∙ ap (λ n. pad (view_claims b.claims) (replicate n [])) t;
       known = k;
@@ -73,6 +66,3 @@ returns c us ok =
       offer = refl;
       gone = refl;
     }
-
-pub looked-spec : {M : Type 1} → statement M
-looked-spec = tie.close (tie.spec through-requires padded-requires returns)

@@ -13,38 +13,21 @@ use Rattle.board.specs.View.{log_frame, board_of, boards}
 use Rattle.board.specs.Promises.{queue_places}
 use Rattle.board.proofs.Parts.{state-by}
 use Rattle.issuing.proofs.Moving.{front-item, front_kept, one_more}
-use borrow.Author.Rules.{rules}
-use Rattle.issuing.proofs.blocked.Statement.{statement}
-use Rattle.issuing.proofs.blocked.Tie as tie
+use Rattle.issuing.proofs.blocked.Goals as goal
 
-element-copy-out-front : tie.Need-element-copy-out-front
-element-copy-out-front c = search rules
-
-kind-of-requires : tie.Need-kind-of-requires
-kind-of-requires c κs = search rules
-
-block-front-requires : tie.Need-block-front-requires
-block-front-requires c κs = search rules
-
-stall-requires : tie.Need-stall-requires
-stall-requires c κs = search rules
-
-returns : tie.Need-returns
+pub returns : goal.returns
 unfolding boards queue_places
-returns c us ok =
-    let d = c.before in
-    let k = d.before in
-    let s = k.before.before.before.before in
-    let b = board_of s.args.board us in
-    let w = s.args.form in
-    let n = s.args.number in
-    let e = d.block-front.ensures in
-    let h = c.stall.ensures in
+returns c = λ us ok.
+    let b = board_of c.args.board us in
+    let w = c.args.form in
+    let n = c.args.number in
+    let e = c.block_front-q.ensures in
+    let h = c.stall-l.ensures in
     let l = listed b.log.traces in
     record {
       is =
           λ q f x. state-by refl
-          (e.is x.legend ∙ ap (λ t. modify 0 (with_hazard (some t)) (view_queue x.legend b.queue)) k.kind-of.ensures)
+          (e.is x.legend ∙ ap (λ t. modify 0 (with_hazard (some t)) (view_queue x.legend b.queue)) c.kind_of-kind.ensures)
           refl refl refl refl refl
           (h.is (log_frame x b)
           ∙ ap
@@ -62,7 +45,7 @@ returns c us ok =
             status = ok.status;
             gone = ok.gone;
             knows = ok.knows;
-            known = subst (All (Known b.claims.len)) (sym h.waits) (All-append (Known b.claims.len) l (_ ∷ []) ok.known (s.requires.1.1.1, tt));
+            known = subst (All (Known b.claims.len)) (sym h.waits) (All-append (Known b.claims.len) l (_ ∷ []) ok.known (c.requires.number_lt_len, tt));
           };
       few = one_more _ ok.log h.ok h.waits;
       waits = λ q f. h.waits ∙ ap (λ (y : Queued). l ++ record { form = w; mine = y.place; other = 80; number = n } ∷ []) (front-item ok.queue _ f);
@@ -79,8 +62,3 @@ returns c us ok =
                 ∙ front_kept (λ (x : Queued). view_operands x.operands) (λ x. refl) (entries b.queue);
           };
     }
-
-pub blocked-spec : {M : Type 1} → statement M
-blocked-spec =
-    tie.close
-    (tie.spec element-copy-out-front kind-of-requires block-front-requires stall-requires returns)
