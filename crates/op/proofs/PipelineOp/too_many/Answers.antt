@@ -1,9 +1,8 @@
 -- A list is as long as its count.
-use Rattle.std.proofs.Common.{◌≡◌, length, le-ltb, lt-ltb}
+use Rattle.std.proofs.Common.{◌≡◌, length, le-ltb, lt-ltb, rules}
 use Rattle.model.specs.Calls.{too_many}
 use Rattle.op.specs.View.{view_op, view_name}
 use Rattle.op.proofs.Names.{listed-length}
-use Rattle.std.proofs.Common.{rules}
 use Rattle.op.proofs.PipelineOp.too_many.Goals as goal
 
 pub returns-then-self-gt8 : goal.returns-then-self-gt8

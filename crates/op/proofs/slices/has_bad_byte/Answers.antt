@@ -1,11 +1,9 @@
 -- A search: what is left gives what the whole gives.
-use Rattle.std.proofs.Common.{drop_of_length-le}
+use Rattle.std.proofs.Common.{drop_of_length-le, ap, not}
 use Rattle.laws.proofs.Slices.{list-next}
 use Rattle.laws.proofs.Search.{scan-next, scan-stop, scan-last, any-hit, any-miss, any-end}
 use Rattle.model.specs.Calls.{bad_byte}
 use Rattle.op.proofs.Texts.{yes_of, no_of}
-use Rattle.std.proofs.Common.{ap}
-use Rattle.std.proofs.Common.{not}
 use Rattle.op.proofs.slices.has_bad_byte.Goals as goal
 
 pub returns-then-not-printable : goal.returns-then-not-printable
