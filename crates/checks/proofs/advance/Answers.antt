@@ -17,4 +17,6 @@ returns-then-not-retired c = refused
     (miss (ap not c.if-not-in_cycle.false) (hit (omega arith) (and_yes (not_yes (an-offer _ c.if-writing-lt64.true)) (ap not c.if-not-retired.true))))
 
 pub returns : goal.returns
-returns c = c.short.ensures ∙ sym (passed 7 _ (let here : (not (is_none (index c.args.writing)) && not c.args.retired) ≡ false = ⊎_elim (λ w. and-next _ (not_yes (an-offer _ w.0)) ∙ ap not w.1) (λ w. and_no _ (not-no (no_offer _ w))) c.else-writing-lt64.either in here)) ∙ sym (passed 5 _ (ap not c.if-not-in_cycle.false))
+returns c = let passes : (not (is_none (index c.args.writing)) && not c.args.retired) ≡ false =
+    ⊎_elim (λ w. and-next _ (not_yes (an-offer _ w.0)) ∙ ap not w.1) (λ w. and_no _ (not-no (no_offer _ w))) c.else-writing-lt64.either in
+    c.short.ensures ∙ sym (passed 7 _ passes) ∙ sym (passed 5 _ (ap not c.if-not-in_cycle.false))

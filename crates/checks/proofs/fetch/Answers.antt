@@ -2,8 +2,7 @@ use mathlib.Core.Path.{sym, ◌∙◌}
 use native.Mathlib.Omega.{arith}
 use borrow.Author.Tests.{eq-eqb, ne_eqb}
 use Rattle.checks.proofs.Table.{hit, miss, end, refused}
-use Rattle.std.proofs.Common.{ap}
-use Rattle.std.proofs.Common.{not}
+use Rattle.std.proofs.Common.{ap, not}
 use Rattle.checks.proofs.fetch.Goals as goal
 
 pub returns-then-in_cycle : goal.returns-then-in_cycle

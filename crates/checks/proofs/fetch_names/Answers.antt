@@ -1,8 +1,7 @@
 use mathlib.Core.Path.{sym, ◌∙◌}
 use native.Mathlib.Omega.{arith}
 use Rattle.checks.proofs.Table.{hit, refused, passed}
-use Rattle.std.proofs.Common.{ap}
-use Rattle.std.proofs.Common.{not}
+use Rattle.std.proofs.Common.{ap, not}
 use Rattle.checks.proofs.fetch_names.Goals as goal
 
 pub returns-then-not-fits : goal.returns-then-not-fits

@@ -1,7 +1,6 @@
 use native.Mathlib.Omega.{arith}
 use Rattle.checks.proofs.Table.{hit, miss, end, refused, no_offer, an-offer}
-use Rattle.std.proofs.Common.{ap}
-use Rattle.std.proofs.Common.{not}
+use Rattle.std.proofs.Common.{ap, not}
 use Rattle.checks.proofs.resolve.Goals as goal
 
 pub returns-then-not-in_cycle : goal.returns-then-not-in_cycle

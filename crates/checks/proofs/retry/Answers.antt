@@ -2,8 +2,7 @@ use mathlib.Core.Path.{sym, ◌∙◌}
 use native.Mathlib.Omega.{arith}
 use Rattle.laws.proofs.Tests.{or_yes, or-next, or_no}
 use Rattle.checks.proofs.Table.{hit, miss, end, refused, no_offer, an-offer}
-use Rattle.std.proofs.Common.{ap}
-use Rattle.std.proofs.Common.{not}
+use Rattle.std.proofs.Common.{ap, not}
 use Rattle.checks.proofs.retry.Goals as goal
 
 pub returns-then-not-in_cycle : goal.returns-then-not-in_cycle
