@@ -1,4 +1,5 @@
 use mathlib.Core.Path.{sym, ◌∙◌}
+use native.Mathlib.Omega.{arith}
 use borrow.Author.Tests.{not-true, not-false}
 use Rattle.flight.specs.View.{op_with}
 use Rattle.units.specs.View.{view_unit}
@@ -12,8 +13,8 @@ returns-then-not-in_phase c = unit-same c.requires (λ g. tick-not _ (sym (c.in_
 
 pub returns-then-left-eq0 : goal.returns-then-left-eq0
 unfolding view_unit op_with
-returns-then-left-eq0 c = unit-by c.with_progress.ensures (λ g. tick-last _ (sym (c.in_phase.ensures g) ∙ not-false _ (ap not c.if-not-in_phase.false)) c.if-left-eq0.true)
+returns-then-left-eq0 c = unit-by c.with_progress.ensures (λ g. tick-last _ (sym (c.in_phase.ensures g) ∙ not-false _ (ap not c.if-not-in_phase.false)) (omega arith))
 
 pub returns-else-left-eq0 : goal.returns-else-left-eq0
 unfolding view_unit op_with
-returns-else-left-eq0 c = unit-by c.with_progress-else-left-eq0.ensures (λ g. tick-more _ (sym (c.in_phase.ensures g) ∙ not-false _ (ap not c.if-not-in_phase.false)) c.if-left-eq0.false)
+returns-else-left-eq0 c = unit-by c.with_progress-else-left-eq0.ensures (λ g. tick-more _ (sym (c.in_phase.ensures g) ∙ not-false _ (ap not c.if-not-in_phase.false)) (λ z. omega arith))
