@@ -1,7 +1,6 @@
 use mathlib.Core.List.{[]}
 use mathlib.Core.Path.{◌≡◌, ap, ◌∙◌}
 use lib.ListN.{length, replicate, length-map}
-use borrow.Author.Tests.{not-false}
 use borrow.Author.Rules.{rules}
 use Rattle.model.specs.Registers.{intern_all}
 use Rattle.op.specs.View.{view_name}
@@ -20,5 +19,5 @@ returns c t ok p q a good few =
     let reads = sources-listed o good few (search rules) in
     let wide = listed-widened (replicate 4 []) (length-map o.writes view_name ∙ all) c.widened.ensures (writes-listed o good few all) in
     looked o r.result.numbers w.result.numbers (table-names c.args.bs.now c.args.ls.now t p q) ok
-    (r.ensures.is (not-false _ c.if-not-r.false) ∙ ap (intern_all ns) reads.is)
-    (w.ensures.is (not-false _ c.if-not-w.false) ∙ ap (intern_all ns) wide.is) r.ensures.size w.ensures.size reads.count wide.count
+    (r.ensures.is (search rules) ∙ ap (intern_all ns) reads.is)
+    (w.ensures.is (search rules) ∙ ap (intern_all ns) wide.is) r.ensures.size w.ensures.size reads.count wide.count
