@@ -1,6 +1,5 @@
 -- The digits behind the text.
 use Rattle.traces.proofs.Written.{laid_next}
-use borrow.Author.Rules.{rules}
 use Rattle.pages.proofs.put_after.Goals as goal
 
 pub returns : goal.returns

@@ -6,7 +6,6 @@ use Rattle.traces.proofs.Written.{laid_next}
 use Rattle.pages.proofs.Laid.{laid_as, laid-within}
 use Rattle.pages.proofs.Lengths.{short-labels}
 use Rattle.pages.proofs.Cells.{stalled-parts, plain-parts}
-use borrow.Author.Rules.{rules}
 use Rattle.pages.proofs.put_cell.Goals as goal
 
 pub put-requires : goal.put-requires

@@ -1,12 +1,8 @@
 -- The first i cells stand, of at most 10 bytes each.
 use Prim.Native.Nat.{◌-◌, ◌≤◌}
-use mathlib.Core.Path.{◌≡◌, ap}
-use native.Mathlib.Omega.{arith}
 use Rattle.model.specs.Forecast.{lent_of, cells_text}
 use Rattle.timeline.specs.Cells.{bare}
-use Rattle.pages.proofs.Laid.{laid_as, laid_none}
-use Rattle.pages.proofs.Cells.{LaidOf, of_size, cells-within, cells-more}
-use borrow.Author.Rules.{rules}
+use Rattle.pages.proofs.Cells.{LaidOf}
 use Rattle.pages.proofs.put_cells.Given as goal
 
 abbrev pub invariant-loop-i : goal.invariant-loop-i

@@ -1,9 +1,8 @@
 -- A row where one is shown; else nothing.
-use mathlib.Core.Path.{refl, sym, ap, subst}
+use mathlib.Core.Path.{refl, sym, ap}
 use Rattle.model.specs.Forecast.{lent_of}
-use Rattle.pages.specs.Shown.{FewCells, shown_row_text}
+use Rattle.pages.specs.Shown.{shown_row_text}
 use Rattle.pages.proofs.Laid.{laid_as, laid-empty}
-use borrow.Author.Rules.{rules}
 use Rattle.pages.proofs.put_nth_row.Goals as goal
 
 pub returns-in-Some : goal.returns-in-Some

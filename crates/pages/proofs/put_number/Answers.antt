@@ -1,7 +1,6 @@
 -- The digits are the end of the array.
 use Rattle.laws.specs.Texts.{decimal}
 use Rattle.pages.proofs.Laid.{laid_as, digits-part}
-use borrow.Author.Rules.{rules}
 use Rattle.pages.proofs.put_number.Goals as goal
 
 pub returns : goal.returns

@@ -12,7 +12,6 @@ use Rattle.pages.proofs.Laid.{laid_as, laid-within}
 use Rattle.pages.proofs.Lengths.{decimal-most, after-most}
 use Rattle.pages.proofs.Cells.{of_size, cells-within}
 use Rattle.pages.proofs.Rows.{row-parts}
-use borrow.Author.Rules.{rules}
 use Rattle.pages.proofs.put_row.Goals as goal
 
 -- Behind both numbers there is room for the cells.

@@ -1,12 +1,7 @@
 -- The first i rows stand, of at most 2042 bytes each.
 use Prim.Native.Nat.{◌-◌, ◌≤◌}
-use mathlib.Core.Path.{ap}
-use native.Mathlib.Omega.{arith}
-use Rattle.model.specs.Forecast.{lent_of, rows_text}
 use Rattle.timeline.specs.View.{view_rows}
-use Rattle.pages.proofs.Laid.{laid_as}
-use Rattle.pages.proofs.Rows.{few-cells, all-rows, FirstRows, rows-first, rows-size, rows_more}
-use borrow.Author.Rules.{rules}
+use Rattle.pages.proofs.Rows.{FirstRows}
 use Rattle.pages.proofs.put_rows.Given as goal
 
 abbrev pub invariant-loop-i : goal.invariant-loop-i

@@ -6,7 +6,6 @@ use Rattle.traces.proofs.Written.{laid_next}
 use Rattle.pages.proofs.Laid.{laid_as, laid-within}
 use Rattle.pages.proofs.Lengths.{after-most}
 use Rattle.pages.proofs.Parts.{totals-parts}
-use borrow.Author.Rules.{rules}
 use Rattle.pages.proofs.put_totals.Goals as goal
 
 pub put_after-b-requires : goal.put_after-b-requires
