@@ -1,11 +1,6 @@
 use Prim.Native.Nat.{◌-◌}
-use mathlib.Core.Path.{refl}
-use native.Mathlib.Omega.{arith}
 use Rattle.model.specs.Issue.{flushed_cell}
-use Rattle.flight.specs.View.{view_queued, op_with}
-use Rattle.flight.proofs.Entries.{queue-next}
-use Rattle.recording.proofs.Pushes.{Pushing, pushing-first, pushing-next, pushing-same, pushing-last, queue-left, queue-more, queue-done}
-use borrow.Author.Rules.{rules}
+use Rattle.recording.proofs.Pushes.{Pushing, queue-left}
 use Rattle.recording.proofs.push_flushed.Given as goal
 
 abbrev pub invariant-loop-i : goal.invariant-loop-i

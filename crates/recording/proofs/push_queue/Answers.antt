@@ -1,11 +1,9 @@
-use Prim.Native.Nat.{ℕ, ◌-◌}
+use Prim.Native.Nat.{ℕ}
 use mathlib.Core.Path.{◌≡◌, sym, ap}
-use native.Mathlib.Omega.{arith}
 use Rattle.model.specs.Issue.{queue_cell}
 use Rattle.flight.specs.View.{view_queued, op_with}
 use Rattle.flight.proofs.Entries.{queue-next}
-use Rattle.recording.proofs.Pushes.{Pushing, pushing-first, pushing-next, pushing-same, pushing-last, queue-left, queue-more, queue-done}
-use borrow.Author.Rules.{rules}
+use Rattle.recording.proofs.Pushes.{pushing-next, pushing-last, queue-more, queue-done}
 use Rattle.recording.proofs.push_queue.Goals as goal
 
 -- A cell with its byte said otherwise.

@@ -1,9 +1,5 @@
-use Prim.Native.Nat.{◌-◌}
-use native.Mathlib.Omega.{arith}
-use Rattle.slots.specs.View.{units_of}
-use Rattle.slots.proofs.Loops.{below, at_ok, at_next}
-use Rattle.recording.proofs.Pushes.{Pushing, pushing-first, pushing-next, pushing-skip, pushing-same, pushing-last, units-left, units-more, units-less, units-done}
-use borrow.Author.Rules.{rules}
+use Rattle.slots.proofs.Loops.{at_ok, at_next}
+use Rattle.recording.proofs.Pushes.{pushing-next, pushing-skip, pushing-last, units-more, units-less, units-done}
 use Rattle.recording.proofs.push_units.Goals as goal
 
 pub cell-requires : goal.cell-requires
