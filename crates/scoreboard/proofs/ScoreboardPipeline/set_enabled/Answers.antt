@@ -5,14 +5,12 @@ use Rattle.board.specs.View.{boards}
 use Rattle.board.specs.Promises.{placing}
 use Rattle.engine.specs.View.{shown}
 use Rattle.engine.proofs.Does.{does-taken}
-use Rattle.scoreboard.proofs.ScoreboardPipeline.set_enabled.Statement.{statement}
-use Rattle.scoreboard.proofs.ScoreboardPipeline.set_enabled.Tie as tie
+use Rattle.scoreboard.proofs.ScoreboardPipeline.set_enabled.Goals as goal
 
-returns : tie.Need-returns
+pub returns : goal.returns
 unfolding shown calls set_enabled boards placing
-returns c =
-    let p = c.before.requires.parts in
-    does-taken c.before.requires refl (λ m. refl) refl
+returns c = let p = c.requires.parts in
+    does-taken c.requires refl (λ m. refl) refl
     record {
       board =
           record {
@@ -42,6 +40,3 @@ returns c =
           λ h o. let b = p.begun h o in record { few = b.few; none = b.none; named = b.named; gone = b.gone };
       named = p.named;
     }
-
-pub set-enabled-spec : {M : Type 1} → statement M
-set-enabled-spec = tie.close (tie.spec returns)

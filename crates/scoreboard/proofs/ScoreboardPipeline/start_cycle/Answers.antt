@@ -1,0 +1,5 @@
+use Rattle.scoreboard.specs.View.{parts}
+use Rattle.scoreboard.proofs.ScoreboardPipeline.start_cycle.Goals as goal
+
+pub returns : goal.returns
+returns c = c.write_result-b.ensures (parts c.args.self) c.requires
