@@ -1,8 +1,8 @@
 -- An engine with another board: its parts, where nothing has moved, and where a cycle has opened.
-use mathlib.Core.Path.{◌≡◌, refl, sym, subst, ap, ap₂, ◌∙◌}
+use mathlib.Core.Path.{◌≡◌, refl, sym, subst, ap, ◌∙◌}
 use mathlib.Core.Bool.{false, cond, ◌||◌}
 use mathlib.Core.Option.{Option, none, some}
-use mathlib.Core.List.{List, [], ◌∷◌, ◌++◌}
+use mathlib.Core.List.{List}
 use Prim.Native.Nat.{ℕ, ◌≤◌}
 use native.Mathlib.Omega.{arith}
 use lib.Dec.{eqb, T}
@@ -19,7 +19,7 @@ use Rattle.stalls.proofs.Logged.{listed-length}
 use Rattle.bank.specs.View.{places}
 use Rattle.board.specs.declared.Board.{Board}
 use Rattle.board.specs.View.{view_board, BoardOk}
-use Rattle.board.specs.Promises.{queue_places, taken_places, Names, Open, Still, Starts}
+use Rattle.board.specs.Promises.{taken_places, Names, Open, Still, Starts}
 use Rattle.registers.specs.View.{claimed}
 use Rattle.board.proofs.Vacancy.{unclaimed}
 use Rattle.board.proofs.Counting.{names_more, taken-count, apart-kept, same_taken, same-apart}

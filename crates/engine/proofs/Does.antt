@@ -8,7 +8,7 @@ use Rattle.laws.specs.Optional.{when_some}
 use Rattle.laws.proofs.Choices.{none-some}
 use Rattle.model.specs.Timeline.{write_all}
 use Rattle.model.specs.State.{State}
-use Rattle.model.specs.Calls.{Call, Answer as ModelAnswer, refused, refusal, run, reply, sets, answer, after, memory_after}
+use Rattle.model.specs.Calls.{Call, refused, refusal, run, reply, sets, answer, after, memory_after}
 use Rattle.rows.proofs.Bytes.{write_all-length}
 use Rattle.invariant.specs.Invariant.{Invariant}
 use Rattle.invariant.proofs.Invariant.{invariant-kept}

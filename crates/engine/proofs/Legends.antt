@@ -1,13 +1,13 @@
 -- Two legends that agree where units, queue and waits look: these mean the same.
 use Prim.Native.Nat.{ℕ}
-use mathlib.Core.Path.{◌≡◌, refl, sym, ap, ap₂, ◌∙◌}
+use mathlib.Core.Path.{◌≡◌, sym, ap, ap₂, ◌∙◌}
 use mathlib.Core.Bool.{Bool}
-use mathlib.Core.List.{List, [], ◌∷◌, map}
+use mathlib.Core.List.{List}
 use Rattle.laws.specs.Lists.{All}
 use Rattle.laws.specs.Texts.{Text}
 use Rattle.laws.proofs.Slices.{take-map}
 use Rattle.model.specs.Op.{Op, op_of, core_of, decoded, info_of}
-use Rattle.model.specs.Units.{FunctionalUnit, with_op}
+use Rattle.model.specs.Units.{with_op}
 use Rattle.flight.specs.declared.Operands.{Operands}
 use Rattle.flight.specs.declared.MaybeHazard.{MaybeHazard}
 use Rattle.flight.specs.declared.Queued.{Queued}

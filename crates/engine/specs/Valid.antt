@@ -1,5 +1,5 @@
 -- The only premise of a call: what holds of every engine that making and calls hand back.
-use Rattle.std.specs.Prelude.{ℕ, ◌≡◌, true, false, ◌||◌}
+use Rattle.std.specs.Prelude.{◌≡◌, true, false, ◌||◌}
 use Rattle.invariant.specs.Invariant.{Invariant}
 use Rattle.config.specs.Kept.{MachineOk}
 use Rattle.registers.specs.View.{TableOk}
