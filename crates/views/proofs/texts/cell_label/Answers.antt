@@ -1,0 +1,14 @@
+-- The machine has the kinds.
+use Rattle.model.specs.Requests.{cell_label, text_at}
+use Rattle.board.specs.View.{view_board}
+use Rattle.scoreboard.specs.View.{view_engine}
+use Rattle.engine.specs.View.{view_engine as engine-view}
+use Rattle.views.proofs.Told.{told}
+use Rattle.views.proofs.texts.cell_label.Goals as goal
+
+pub returns : goal.returns
+unfolding text_at engine-view view_board
+returns c =
+    let a = c.args in
+    let t = told (view_engine a.engine) (cell_label a.label) c.write_cell_label.ensures in
+    record { answer = t.0; buffer = t.1 }
