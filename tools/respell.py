@@ -39,12 +39,24 @@ def declared(path):
     with open(path, encoding="utf-8") as f:
         for line in f:
             s = line.rstrip("\n")
+            for name in re.findall(r"\sas ([^\s(){}\[\];,.:◌λ]+)", s) if s.startswith("use ") or re.match(r"^  [^=:]*,$", s) else ():
+                if name[:1].islower():
+                    yield name, "alias"
             if not s.strip() or s.strip().startswith(("--", "use ")):
                 continue
             m = re.match(r"^(\s*)(?:(?:abbrev|unfoldable)\s+)?(?:pub\s+)?(?:data|record)\s+([^\s{]\S*)", s)
             if m:
                 inside = len(m.group(1))
                 yield m.group(2), "type"
+                continue
+            m = re.match(r"^(\s+)(?:pub\s+)?([^\s(){}\[\];,.:◌λ=→]+)$", s)
+            if m and inside is not None and len(m.group(1)) == inside + 2:
+                yield m.group(2), "member"
+                continue
+            m = re.match(r"^(\s+)((?:[^\s(){}\[\];,.:◌λ]+\s+){2,}):\s", s)
+            if m and inside is not None and len(m.group(1)) > inside:
+                for name in m.group(2).split():
+                    yield name, "member"
                 continue
             m = re.match(r"^(\s*)((?:abbrev\s+|unfoldable\s+)?(?:pub\s+)?)([^\s(){}\[\];,.:◌λ]+)\s+:\s(.*)$", s)
             if m and inside is not None and len(m.group(1)) > inside:
@@ -80,6 +92,7 @@ def new_names(top):
     made = {}
     for name, ks in kinds.items():
         shared = {(k, w) for k, w in ks if w != "walk"}
+        shared -= {("alias", "proofs")}
         if any(k == "type" for k, w in shared):
             made[name] = camel(name)
         elif any(k == "member" or w == "specs" for k, w in shared):
@@ -87,7 +100,7 @@ def new_names(top):
     made.update(BY_HAND)
     words = {n: t for n, t in made.items() if n != t and two_words(n)}
     for name, ks in kinds.items():
-        if name not in made and any(w == "proofs" for _, w in ks):
+        if name not in made and any(w == "proofs" and k != "alias" for k, w in ks):
             made[name] = parts(name, words)
     # A plain word stays: it may be a variable of src/ or stand in a sentence.
     return {n: t for n, t in made.items() if n != t and two_words(n)}

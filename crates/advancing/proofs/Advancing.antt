@@ -14,7 +14,7 @@ use Rattle.model.specs.Timeline.{Write, write_all}
 use Rattle.model.specs.State.{Front, State, with_turn}
 use Rattle.model.specs.Issue.{complete_at, complete_offer, complete_write}
 use Rattle.model.specs.Scoreboard.{
-  advance as do-advance,
+  advance as do_advance,
   advance_writes,
   after_issue,
   close_cycle,
@@ -133,7 +133,7 @@ module _ {e : Engine} (v : Valid e) (target : Option ℕ) (m : List ℕ) where
 
     module _ (t : stops (view_engine e) ≡ true) where
       run-stops : run (view_engine e) (advance target (length m)) ≡ closed (view_engine e)
-      unfolding run do-advance
+      unfolding run do_advance
       run-stops = cond_yes (closed (view_engine e)) (after_issue (issued target (view_engine e))) t
 
       pub stopped : {b : Board} → Closes e.board b → b.front.halted || b.front.faulted ≡ true
@@ -155,7 +155,7 @@ module _ {e : Engine} (v : Valid e) (target : Option ℕ) (m : List ℕ) where
 
     module _ (t : stops (view_engine e) ≡ false) where
       run-works : run (view_engine e) (advance target (length m)) ≡ after_issue (issued target (view_engine e))
-      unfolding run do-advance
+      unfolding run do_advance
       run-works = cond_no (closed (view_engine e)) (after_issue (issued target (view_engine e))) t
 
       pub works : {r : Next} → Worked e target r → Does e (advance target (length m)) r

@@ -13,7 +13,7 @@ use Rattle.laws.specs.Lists.{nth}
 use Rattle.laws.specs.Texts.{Text}
 use Rattle.model.specs.Timeline.{overlay, splice}
 use Rattle.model.specs.State.{State}
-use Rattle.model.specs.Scoreboard.{advance as do-advance}
+use Rattle.model.specs.Scoreboard.{advance as do_advance}
 use Rattle.model.specs.Write.{offered_op, start_cycle, resolve_branch}
 use Rattle.model.specs.Views.{
   offer_view,
@@ -36,27 +36,27 @@ use Rattle.model.specs.Calls.{
   enabled,
   fetch_pc,
   resume_pc,
-  stage-count,
+  stage_count,
   edges,
   entry_stages,
   stage_order,
-  unit-count,
-  trace-count,
-  timeline-len,
-  station-count,
-  rename-count,
-  queue-count,
-  buffer-count,
-  buffer-capacity,
+  unit_count,
+  trace_count,
+  timeline_len,
+  station_count,
+  rename_count,
+  queue_count,
+  buffer_count,
+  buffer_capacity,
   in_flight_before,
   stage,
   unit,
   trace,
-  timeline-row,
+  timeline_row,
   station,
   rename,
   queued,
-  buffer-entry,
+  buffer_entry,
   Call,
   start,
   retire,
@@ -119,27 +119,27 @@ show-fits s stats = omega arith
 show-fits s enabled = omega arith
 show-fits s fetch_pc = omega arith
 show-fits s resume_pc = omega arith
-show-fits s stage-count = omega arith
+show-fits s stage_count = omega arith
 show-fits s edges = omega arith
 show-fits s entry_stages = omega (arith, ap length entries-shown)
 show-fits s stage_order = omega (arith, ap length order-shown)
-show-fits s unit-count = omega arith
-show-fits s trace-count = omega arith
-show-fits s timeline-len = omega arith
-show-fits s station-count = omega arith
-show-fits s rename-count = omega arith
-show-fits s queue-count = omega arith
-show-fits s buffer-count = omega arith
-show-fits s buffer-capacity = omega arith
+show-fits s unit_count = omega arith
+show-fits s trace_count = omega arith
+show-fits s timeline_len = omega arith
+show-fits s station_count = omega arith
+show-fits s rename_count = omega arith
+show-fits s queue_count = omega arith
+show-fits s buffer_count = omega arith
+show-fits s buffer_capacity = omega arith
 show-fits s (in_flight_before n) = omega arith
 show-fits s (stage i) = omega (arith, optional-most stage_bytes 18 stage-length (stage_view s i))
 show-fits s (unit i) = omega (arith, optional-most kind_bytes 35 kind-length (unit_view s i))
 show-fits s (trace i) = omega (arith, optional-most wait_bytes 3 (λ v. refl) (omap trace_view (nth s.log.traces i)))
-show-fits s (timeline-row i) = omega (arith, optional-most row_bytes 27 (λ v. refl) (omap row_view (nth s.log.rows i)))
+show-fits s (timeline_row i) = omega (arith, optional-most row_bytes 27 (λ v. refl) (omap row_view (nth s.log.rows i)))
 show-fits s (station i) = omega (arith, optional-most station_bytes 29 station-length (omap (station_view i) (nth s.units i)))
 show-fits s (rename i) = omega (arith, optional-most claim_bytes 2 (λ v. refl) (nth (claims s) i))
 show-fits s (queued i) = omega (arith, optional-most slot_bytes 16 slot-length (omap slot_view (nth s.queue i)))
-show-fits s (buffer-entry i) = omega arith
+show-fits s (buffer_entry i) = omega arith
 
 -- A text that is not refused has room.
 text-most : (room : ℕ) (x : Option Text) → first_of ((13, short_for room x) ∷ []) ≡ none → length (encode (shown_text x)) ≤ 10 + room
@@ -157,7 +157,7 @@ reply-fits s m start q = omega (arith, optional-most offer_bytes 43 (λ v. refl)
 reply-fits s m retire q = omega arith
 reply-fits s m (retry reason) q = omega arith
 reply-fits s m (resolve a) q = omega (arith, optional-most number_bytes 8 (λ v. refl) (resolve_branch (offered_op s) a))
-reply-fits s m (advance r lent) q = omega (arith, optional-most number_bytes 8 (λ v. refl) (invitation_of (do-advance r s)))
+reply-fits s m (advance r lent) q = omega (arith, optional-most number_bytes 8 (λ v. refl) (invitation_of (do_advance r s)))
 reply-fits s m (fetch g lent) q = omega arith
 reply-fits s m (capacity k n) q = omega arith
 reply-fits s m (overlap b) q = omega arith
@@ -176,27 +176,27 @@ view-least stats = omega arith
 view-least enabled = omega arith
 view-least fetch_pc = omega arith
 view-least resume_pc = omega arith
-view-least stage-count = omega arith
+view-least stage_count = omega arith
 view-least edges = omega arith
 view-least entry_stages = omega arith
 view-least stage_order = omega arith
-view-least unit-count = omega arith
-view-least trace-count = omega arith
-view-least timeline-len = omega arith
-view-least station-count = omega arith
-view-least rename-count = omega arith
-view-least queue-count = omega arith
-view-least buffer-count = omega arith
-view-least buffer-capacity = omega arith
+view-least unit_count = omega arith
+view-least trace_count = omega arith
+view-least timeline_len = omega arith
+view-least station_count = omega arith
+view-least rename_count = omega arith
+view-least queue_count = omega arith
+view-least buffer_count = omega arith
+view-least buffer_capacity = omega arith
 view-least (in_flight_before n) = omega arith
 view-least (stage i) = omega arith
 view-least (unit i) = omega arith
 view-least (trace i) = omega arith
-view-least (timeline-row i) = omega arith
+view-least (timeline_row i) = omega arith
 view-least (station i) = omega arith
 view-least (rename i) = omega arith
 view-least (queued i) = omega arith
-view-least (buffer-entry i) = omega arith
+view-least (buffer_entry i) = omega arith
 
 -- A number for no.
 pub refused-fits : (n : ℕ) (c : Call) → length (encode (refused n)) ≤ size c

@@ -7,27 +7,27 @@ use Rattle.model.specs.Calls.{
   enabled,
   fetch_pc,
   resume_pc,
-  stage-count,
+  stage_count,
   edges,
   entry_stages,
   stage_order,
-  unit-count,
-  trace-count,
-  timeline-len,
-  station-count,
-  rename-count,
-  queue-count,
-  buffer-count,
-  buffer-capacity,
+  unit_count,
+  trace_count,
+  timeline_len,
+  station_count,
+  rename_count,
+  queue_count,
+  buffer_count,
+  buffer_capacity,
   in_flight_before,
   stage,
   unit,
   trace,
-  timeline-row,
+  timeline_row,
   station,
   rename,
   queued,
-  buffer-entry,
+  buffer_entry,
   Call,
   start,
   retire,
@@ -55,27 +55,27 @@ size_of_view stats = 97
 size_of_view enabled = 2
 size_of_view fetch_pc = 9
 size_of_view resume_pc = 9
-size_of_view stage-count = 9
+size_of_view stage_count = 9
 size_of_view edges = 16
 size_of_view entry_stages = 2
 size_of_view stage_order = 6
-size_of_view unit-count = 9
-size_of_view trace-count = 9
-size_of_view timeline-len = 9
-size_of_view station-count = 9
-size_of_view rename-count = 9
-size_of_view queue-count = 9
-size_of_view buffer-count = 9
-size_of_view buffer-capacity = 9
+size_of_view unit_count = 9
+size_of_view trace_count = 9
+size_of_view timeline_len = 9
+size_of_view station_count = 9
+size_of_view rename_count = 9
+size_of_view queue_count = 9
+size_of_view buffer_count = 9
+size_of_view buffer_capacity = 9
 size_of_view (in_flight_before n) = 2
 size_of_view (stage i) = 20
 size_of_view (unit i) = 37
 size_of_view (trace i) = 5
-size_of_view (timeline-row i) = 29
+size_of_view (timeline_row i) = 29
 size_of_view (station i) = 31
 size_of_view (rename i) = 4
 size_of_view (queued i) = 18
-size_of_view (buffer-entry i) = 18
+size_of_view (buffer_entry i) = 18
 
 unfoldable pub size : Call → ℕ
 size start = 45

@@ -43,7 +43,7 @@ fn blocked_trace(us: &[[u8; 40]], ss: &[u64], n: usize, t: Turned) -> Trace
     }
 }
 
-// model: stall_all (map blocked_trace (turned-away))
+// model: stall_all (map blocked_trace (turned_away))
 pub fn list_blocked(us: &[[u8; 40]], ss: &[u64], n: usize, tried: Tried, log: Log) -> Log
     requires lent { Lent us.now ss.now n }
     requires tried_ok { TriedOk (units_of us.now ss.now n) tried }

@@ -13,7 +13,7 @@ use Rattle.capability.specs.declared.Phase.TheVariants.{Write}
 use Rattle.model.specs.Issue.{issue, issue_front, issuing}
 use Rattle.model.specs.Op.{Op}
 use Rattle.model.specs.Registers.{producer_of, registers}
-use Rattle.model.specs.Scoreboard.{advance as do-advance, before_issue, closed, stops}
+use Rattle.model.specs.Scoreboard.{advance as do_advance, before_issue, closed, stops}
 use Rattle.model.specs.State.{State}
 use Rattle.model.specs.Units.{FunctionalUnit, clear, units}
 use Rattle.model.specs.Views.{owed}
@@ -264,16 +264,16 @@ module _ (s : State) (h : Invariant s) (a : Along s) where
             let ds = (looked t o).written in (
               do_issue k kind ss ds b,
               issued r k kind ss ds (sym (f.same_issue k ds) ∙ sym (ap (λ (x : Book). can_issue x k ds) z) ∙ c),
-              sym (book-tidy (issue t)) ∙ ap tidy (y.issue-tables o rest k q m ∙ ap (do_issue k kind ss ds) z) ∙ f.issued-same k kind ss ds,
+              sym (book-tidy (issue t)) ∙ ap tidy (y.issue_tables o rest k q m ∙ ap (do_issue k kind ss ds) z) ∙ f.issued_same k kind ss ds,
             )
 
         go : (l : List Op) → t.queue ≡ l → InTheBook (issue t)
         go [] e = let (b, r, z) = before-in in (b, r, ap (λ (l : List Op). book_of (issue_front l t)) e ∙ z)
         go (o ∷ rest) e = step o rest e (outcome t o rest e)
 
-    pub advance-in : InTheBook (do-advance redirect s)
+    pub advance-in : InTheBook (do_advance redirect s)
     advance-in = go (stops s) refl
       where
-        go : (b : Bool) → stops s ≡ b → InTheBook (do-advance redirect s)
+        go : (b : Bool) → stops s ≡ b → InTheBook (do_advance redirect s)
         go true e = let (b, r, q) = closed_in in (b, r, stopped-is s h redirect e ∙ q)
         go false e = let (b, r, q) = issue-in in (b, r, advance-is s h redirect e ∙ q)

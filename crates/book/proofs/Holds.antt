@@ -50,12 +50,12 @@ module _ (s : State) (h : Invariant s) where
         offers = λ c. offers-same s h (outside c);
         start_tables = λ c. start-same s (outside c);
         writable_allowed = λ i u w. unread-allowed s i u w.holds w.finished (none-unread s i u w.holds w.unread_by);
-        war-exactly = λ i u k p. war-same s i u k h p;
+        war_exactly = λ i u k p. war-same s i u k h p;
         write_tables = written-tables s h;
         unwritten_tables = unwritten_tables s;
         reads = reads_same (closed s) closed-unoffered;
         read_tables = reads-tables (closed s) closed-unoffered;
         issue_as_book = λ r. issue-by-the-book (before_issue r (closed s)) (before-unoffered r).no_offer;
-        advance-tables = advance-is;
+        advance_tables = advance-is;
         stopped_tables = stopped-is;
       }

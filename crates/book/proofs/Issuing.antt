@@ -276,9 +276,9 @@ module _ (t : State) (n : t.offer.writing ≡ none) (o : Op) where
             go (inr a) (inl b) = absurd (up b)
             go (inr a) (inr b) = omega arith
 
-    pub issues-some
+    pub issues_some
         : t.marks.branch ≡ false → t.marks.system ≡ false → (i : ℕ) → MayIssue t o i → (j : ℕ) × Issues t o rest j
-    issues-some b y i m = let g = allowed-open b y i m in (g.0, open-issues rest q g.0 g.1)
+    issues_some b y i m = let g = allowed-open b y i m in (g.0, open-issues rest q g.0 g.1)
 
 -- ── The bookkeeping ─────────────────────────────────────────────────────────
 
@@ -362,7 +362,7 @@ module _ (t : State) (n : t.offer.writing ≡ none) where
   issue-by-the-book =
       record {
         issues = λ o rest q. issues-same t n o rest q;
-        issues-some = λ o rest q. issues-some t n o rest q;
-        issue-tables = λ o rest i q h. issued-tables o rest i h;
-        unissued-tables = unissued;
+        issues_some = λ o rest q. issues_some t n o rest q;
+        issue_tables = λ o rest i q h. issued-tables o rest i h;
+        unissued_tables = unissued;
       }

@@ -247,6 +247,6 @@ module _ (s : State) (h : Invariant s) (n : s.offer.writing ≡ none) where
         let k = found-writable a.0 a.1 in
         let lo = k.2 i u w.1 in
         let up = w.2 a.0 k.0 k.1 in
-        let z : a.0 ≡ i = h.number-distinct a.0 i k.0 u k.1.holds w.1.holds (omega arith) in
+        let z : a.0 ≡ i = h.number_distinct a.0 i k.0 u k.1.holds w.1.holds (omega arith) in
         start-found s ∙ a.1 ∙ ap (λ (x : ℕ). some x) z),
   )

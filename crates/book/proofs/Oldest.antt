@@ -44,7 +44,7 @@ module _
     -- A reader that is not owed the register is older than the unit that is to write it.
     unread : Unread s i u
     unread j v r k ne m d q =
-        go (h.unwaiting-older j v r i k m (λ a p. in-owed r a v.pending p q) (h.claimed i u r held d))
+        go (h.unwaiting_older j v r i k m (λ a p. in-owed r a v.pending p q) (h.claimed i u r held d))
       where
         go : (i ≡ j) ⊎ ((w : FunctionalUnit) × Holds s i w × v.op.core.seq < w.op.core.seq) → ⊥
         go (inl e) = ne (sym e)
@@ -56,9 +56,9 @@ module _
 
     alone : is_system u.class ≡ true → (j : ℕ) (v : FunctionalUnit) → Holds s j v → j ≡ i
     alone e j v k =
-        let a = h.system-youngest i j u v held e k in
+        let a = h.system_youngest i j u v held e k in
         let b = least j v k in
-        h.number-distinct j i v u k held (omega arith)
+        h.number_distinct j i v u k held (omega arith)
 
     pub oldest-unblocked : write_blocked s.units i ≡ none
     oldest-unblocked = unblocked s n i u held unread (λ e j v k m. least j v k) alone

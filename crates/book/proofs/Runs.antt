@@ -11,7 +11,7 @@ use Rattle.model.specs.Calls.{Call, start, retire, retry, resolve, advance, fetc
 use Rattle.model.specs.Config.{PipelineShape, machine_of}
 use Rattle.model.specs.Issue.{issue, issuing}
 use Rattle.model.specs.Registers.{producer_of}
-use Rattle.model.specs.Scoreboard.{advance as do-advance, after_issue, before_issue, closed, rebuilt, reset_to, scoreboard, set_capacity, stops, with_noted}
+use Rattle.model.specs.Scoreboard.{advance as do_advance, after_issue, before_issue, closed, rebuilt, reset_to, scoreboard, set_capacity, stops, with_noted}
 use Rattle.model.specs.State.{State, engine, new}
 use Rattle.model.specs.Units.{FunctionalUnit, build_units, is_busy, units}
 use Rattle.model.specs.Write.{start_cycle, stopped, writing}
@@ -42,14 +42,14 @@ module _ (s : State) (h : Invariant s) (a : Along s) where
             ap (λ (x : Book). can_write x i) e ∙ by.writable_allowed i o.0 o.1;
       }
 
-  advance-along : (r : Option ℕ) → Along (do-advance r s)
+  advance-along : (r : Option ℕ) → Along (do_advance r s)
   unfolding scoreboard issuing
-  advance-along r = along-none (do-advance r s) (go (stops s) refl) (advance-in s h a r)
+  advance-along r = along-none (do_advance r s) (go (stops s) refl) (advance-in s h a r)
     where
       after-offer : (t : State) → (after_issue t).offer.writing ≡ t.offer.writing
       after-offer t = refl
 
-      go : (b : Bool) → stops s ≡ b → (do-advance r s).offer.writing ≡ none
+      go : (b : Bool) → stops s ≡ b → (do_advance r s).offer.writing ≡ none
       go true e =
           ap (λ (b : Bool). (cond b (closed s) (after_issue (issue (before_issue r (closed s))))).offer.writing) e
           ∙ (closed-unoffered s h).no_offer

@@ -347,7 +347,7 @@ module _ (b : Book) where
         same_issue = free-same;
         same_read = ready-same;
         same_write = λ i y. write_same i y quiet;
-        issued-same = issued-rows;
+        issued_same = issued-rows;
         read_same = read-rows;
         written_same = written-rows;
       }

@@ -175,7 +175,7 @@ pub record Unseen (b : Book) : Type 0 where
   pub same_issue : (i : ℕ) (ds : List ℕ) → can_issue (tidy b) i ds ≡ can_issue b i ds
   pub same_read : (i : ℕ) → busy_at b i ≡ true → can_read (tidy b) i ≡ can_read b i
   pub same_write : (i : ℕ) → busy_at b i ≡ true → can_write (tidy b) i ≡ can_write b i
-  pub issued-same
+  pub issued_same
       : (i : ℕ) (o : PipelineInstructionClass) (ss ds : List ℕ) → tidy (do_issue i o ss ds (tidy b)) ≡ tidy (do_issue i o ss ds b)
   pub read_same : (i : ℕ) → tidy (do_read i (tidy b)) ≡ tidy (do_read i b)
   pub written_same : (i : ℕ) → busy_at b i ≡ true → tidy (do_write i (tidy b)) ≡ tidy (do_write i b)

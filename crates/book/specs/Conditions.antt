@@ -52,20 +52,20 @@ Issues t o rest i = issue t ≡ place o rest (looked t o).read (looked t o).writ
 -- In t, where an advance issues.
 pub record IssueByTheBook (t : State) : Type 0 where
   -- The front of the queue is issued to unit i exactly where the book may issue it there and to no lower unit of its kind, and neither mark
-  -- stands. (A mark stands while a branch, or a system operation, is in flight: `branch_mark` and `system-mark` of the invariant.)
+  -- stands. (A mark stands while a branch, or a system operation, is in flight: `branch_mark` and `system_mark` of the invariant.)
   pub issues
       : (o : Op) (rest : List Op) → t.queue ≡ o ∷ rest → (i : ℕ)
       → Issues t o rest i
       ↔ ((t.marks.branch ≡ false) × (t.marks.system ≡ false) × MayIssue t o i × ((j : ℕ) → j < i → MayIssue t o j → ⊥))
   -- So it is issued wherever the book may issue it to some unit of its kind, but for the two marks.
-  pub issues-some
+  pub issues_some
       : (o : Op) (rest : List Op) → t.queue ≡ o ∷ rest → t.marks.branch ≡ false → t.marks.system ≡ false → (i : ℕ)
       → MayIssue t o i → (j : ℕ) × Issues t o rest j
   -- The bookkeeping is the book's; without an issue no table changes.
-  pub issue-tables
+  pub issue_tables
       : (o : Op) (rest : List Op) (i : ℕ) → t.queue ≡ o ∷ rest → Issues t o rest i
       → book_of (issue t) ≡ do_issue i o.core.decoded.class (looked t o).read (looked t o).written (book_of t)
-  pub unissued-tables
+  pub unissued_tables
       : ((o : Op) (rest : List Op) (i : ℕ) → t.queue ≡ o ∷ rest → Issues t o rest i → ⊥) → book_of (issue t) ≡ book_of t
 
 -- ── Read operands ───────────────────────────────────────────────────────────
@@ -115,7 +115,7 @@ pub record ByTheBook (s : State) : Type 0 where
   pub writable_allowed : (i : ℕ) (u : FunctionalUnit) → Writable s i u → can_write (book_of s) i ≡ true
   -- The engine's WAR rule is the book's and one more: no other operation in flight that has read, so is past phase Wait, reads one of the
   -- registers.
-  pub war-exactly
+  pub war_exactly
       : (i : ℕ) (u : FunctionalUnit) → Holds s i u → u.phase ≡ Write
       → (no_reader (book_of s) i ≡ true)
       ↔ ((can_write (book_of s) i ≡ true)
@@ -132,7 +132,7 @@ pub record ByTheBook (s : State) : Type 0 where
   -- Issue, by the tables after the reads: at most one operation, the front of the queue.
   pub issue_as_book : (redirect : Option ℕ) → IssueByTheBook (before_issue redirect (closed s))
   -- The rest of an advance changes no table; an engine that is halted or faulted only writes.
-  pub advance-tables
+  pub advance_tables
       : (redirect : Option ℕ) → stops s ≡ false → book_of (advance redirect s) ≡ book_of (issue (before_issue redirect (closed s)))
   pub stopped_tables : (redirect : Option ℕ) → stops s ≡ true → book_of (advance redirect s) ≡ book_of (closed s)
 

@@ -16,7 +16,7 @@ use Rattle.model.specs.Units.{unit_of, in_phase, unit_at}
 use Rattle.model.specs.State.{State, new, with_units, with_registers}
 use Rattle.model.specs.Write.{start_cycle, write_blocked}
 use Rattle.model.specs.Issue.{issue}
-use Rattle.model.specs.Scoreboard.{closed, before_issue, advance as do-advance}
+use Rattle.model.specs.Scoreboard.{closed, before_issue, advance as do_advance}
 use Rattle.model.specs.Calls.{Call, start, retire, advance, fetch, overlap, runs}
 use Rattle.book.specs.Book.{fi_at, can_issue, can_read, can_write}
 use Rattle.book.specs.Tables.{row_of, book_of}
@@ -82,7 +82,7 @@ only_the_book p =
     can_write (book_of (reader_and_writer p)) 1 && not (no_reader (book_of (reader_and_writer p)) 1)
     && is_some (write_blocked (reader_and_writer p).units 1)
 
--- In each phase after the read. (Smallest: by `war-exactly` it always takes another unit, a source and a destination.)
+-- In each phase after the read. (Smallest: by `war_exactly` it always takes another unit, a source and a destination.)
 unfoldable pub war_outlasts_the_read : Bool
 war_outlasts_the_read = all only_the_book (Read ∷ Execute ∷ Write ∷ [])
 
@@ -162,15 +162,15 @@ writing_x1 n r w = runs (played (units_of n) (op Alu [] x1 ++ (op Alu r w ++ cyc
 -- Operation 1, in unit 1, waits for x1, and reads it in the advance that writes it.
 unfoldable pub read_as_written : Bool
 read_as_written =
-    not (can_read (book_of (writing_x1 2 x1 [])) 1) && phase_at (do-advance none (writing_x1 2 x1 [])) 1 Read
+    not (can_read (book_of (writing_x1 2 x1 [])) 1) && phase_at (do_advance none (writing_x1 2 x1 [])) 1 Read
 
 -- Operation 1, queued behind a claim on x1, is issued in the advance that releases it; and so behind a busy unit.
 unfoldable pub issued_as_released : Bool
 issued_as_released =
-    not (can_issue (book_of (writing_x1 2 [] x1)) 1 (0 ∷ [])) && number_at (do-advance none (writing_x1 2 [] x1)) 0 1
+    not (can_issue (book_of (writing_x1 2 [] x1)) 1 (0 ∷ [])) && number_at (do_advance none (writing_x1 2 [] x1)) 0 1
 
 unfoldable pub issued_as_freed : Bool
-issued_as_freed = not (can_issue (book_of (writing_x1 1 [] [])) 0 []) && number_at (do-advance none (writing_x1 1 [] [])) 0 1
+issued_as_freed = not (can_issue (book_of (writing_x1 1 [] [])) 0 []) && number_at (do_advance none (writing_x1 1 [] [])) 0 1
 
 -- ── Kinds of unit ───────────────────────────────────────────────────────────
 
@@ -210,7 +210,7 @@ abbrev pub two_waiting : State
 two_waiting = runs (played (units_of 3) (op Alu [] x1 ++ (op Alu x1 [] ++ (op Alu x1 [] ++ cycles 2)))) (start ∷ retire ∷ [])
 
 unfoldable pub both_read : Bool
-both_read = phase_at (do-advance none two_waiting) 1 Read && phase_at (do-advance none two_waiting) 2 Read
+both_read = phase_at (do_advance none two_waiting) 1 Read && phase_at (do_advance none two_waiting) 2 Read
 
 -- Behind a branch that is written now, two operations are queued and two units are free.
 abbrev pub two_queued : State

@@ -6,10 +6,10 @@ use lib.ListN.{length, get_or, get_or-eq_default}
 use Rattle.model.specs.State.{State}
 use Rattle.model.specs.Requests.{
   Place,
-  in-queue,
-  in-station,
-  in-stage,
-  in-unit,
+  in_queue,
+  in_station,
+  in_stage,
+  in_unit,
   on_offer,
   Field,
   disassembly,
@@ -29,7 +29,7 @@ use Rattle.decoding.specs.Calls.{asks, place_at, field_at, request_at}
 use Rattle.calls.proofs.Which.{request-is}
 
 abbrev places : List (ℕ → Place)
-places = in-queue ∷ in-station ∷ in-stage ∷ in-unit ∷ []
+places = in_queue ∷ in_station ∷ in_stage ∷ in_unit ∷ []
 
 abbrev fields : List (ℕ → Field)
 fields = (λ i. disassembly) ∷ (λ i. destination) ∷ (λ i. fault) ∷ source ∷ []

@@ -33,11 +33,11 @@ use Rattle.capability.specs.declared.PipelineEntryPhase.TheVariants as entry
 use Rattle.capability.specs.declared.PipelineStats.{PipelineStats}
 use Rattle.capability.specs.declared.PipelineEdge.{PipelineEdge}
 use Rattle.capability.specs.declared.MaybeClass.{MaybeClass}
-use Rattle.capability.specs.declared.MaybeClass.TheVariants as a-class
+use Rattle.capability.specs.declared.MaybeClass.TheVariants as a_class
 use Rattle.capability.specs.declared.MaybeRole.{MaybeRole}
-use Rattle.capability.specs.declared.MaybeRole.TheVariants as a-role
+use Rattle.capability.specs.declared.MaybeRole.TheVariants as a_role
 use Rattle.capability.specs.declared.MaybeIndex.{MaybeIndex}
-use Rattle.capability.specs.declared.MaybeIndex.TheVariants as a-index
+use Rattle.capability.specs.declared.MaybeIndex.TheVariants as a_index
 
 -- Cases have numbers below a count, each its own, and `of` is the way back.
 pub record Numbered {A : Type 0} (number : A → ℕ) (of : ℕ → Option A) (count : ℕ) : Type 0 where
@@ -94,16 +94,16 @@ occupied entry.Committing = true
 
 -- What an answer stands for.
 abbrev pub maybe_class : MaybeClass → Option PipelineInstructionClass
-maybe_class (a-class.Some c) = some c
-maybe_class a-class.Nothing = none
+maybe_class (a_class.Some c) = some c
+maybe_class a_class.Nothing = none
 
 abbrev pub maybe_role : MaybeRole → Option PipelineStageRole
-maybe_role (a-role.Some c) = some c
-maybe_role a-role.Nothing = none
+maybe_role (a_role.Some c) = some c
+maybe_role a_role.Nothing = none
 
 abbrev pub maybe_index : MaybeIndex → Option ℕ
-maybe_index (a-index.Some n) = some n
-maybe_index a-index.Nothing = none
+maybe_index (a_index.Some n) = some n
+maybe_index a_index.Nothing = none
 
 -- PipelineStats::default
 abbrev pub no_stats : PipelineStats

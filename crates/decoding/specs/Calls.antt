@@ -2,26 +2,26 @@
 use Rattle.std.specs.Prelude.{ℕ, ◌+◌, ◌-◌, Bool, true, cond, ◌&&◌, ◌||◌, List, [], ◌∷◌, ◌++◌, map, eqb, ltb, leb, length, get_or}
 use Rattle.model.specs.Requests.{
   Place,
-  in-queue,
-  in-station,
-  in-stage,
-  in-unit,
+  in_queue,
+  in_station,
+  in_stage,
+  in_unit,
   on_offer,
   Field,
   disassembly,
   destination,
-  fault as fault-note,
+  fault as fault_note,
   source,
   write,
   Request,
   status_message,
   slot_text,
-  trace-detail,
-  row-disassembly,
-  stage-name,
-  unit-name,
-  station-label,
-  rename-register,
+  trace_detail,
+  row_disassembly,
+  stage_name,
+  unit_name,
+  station_label,
+  rename_register,
   cell_label,
   operand_register,
 }
@@ -32,27 +32,27 @@ use Rattle.model.specs.Calls.{
   enabled,
   fetch_pc,
   resume_pc,
-  stage-count,
+  stage_count,
   edges,
   entry_stages,
   stage_order,
-  unit-count,
-  trace-count,
-  timeline-len,
-  station-count,
-  rename-count,
-  queue-count,
-  buffer-count,
-  buffer-capacity,
+  unit_count,
+  trace_count,
+  timeline_len,
+  station_count,
+  rename_count,
+  queue_count,
+  buffer_count,
+  buffer_capacity,
   in_flight_before,
   stage,
   unit,
   trace,
-  timeline-row,
+  timeline_row,
   station,
   rename,
   queued,
-  buffer-entry,
+  buffer_entry,
   Call,
   start,
   retire,
@@ -118,23 +118,23 @@ plain_views =
     ∷ enabled
     ∷ fetch_pc
     ∷ resume_pc
-    ∷ stage-count
+    ∷ stage_count
     ∷ edges
     ∷ entry_stages
     ∷ stage_order
-    ∷ unit-count
-    ∷ trace-count
-    ∷ timeline-len
-    ∷ station-count
-    ∷ rename-count
-    ∷ queue-count
-    ∷ buffer-count
-    ∷ buffer-capacity
+    ∷ unit_count
+    ∷ trace_count
+    ∷ timeline_len
+    ∷ station_count
+    ∷ rename_count
+    ∷ queue_count
+    ∷ buffer_count
+    ∷ buffer_capacity
     ∷ []
 
 abbrev pub indexed_views : List (ℕ → View)
 indexed_views =
-    in_flight_before ∷ stage ∷ unit ∷ trace ∷ timeline-row ∷ station ∷ rename ∷ queued ∷ buffer-entry ∷ []
+    in_flight_before ∷ stage ∷ unit ∷ trace ∷ timeline_row ∷ station ∷ rename ∷ queued ∷ buffer_entry ∷ []
 
 -- The view that a byte of 12 to 28 says.
 unfoldable pub plain_view : ℕ → View
@@ -154,23 +154,23 @@ shows =
 -- A byte, and an index, which does not count on the offer.
 unfoldable pub place_at : Reader Place
 place_at l at =
-    get_or (in-queue ∷ in-station ∷ in-stage ∷ in-unit ∷ []) (byte_at l at) (λ (i : ℕ). on_offer) (number_at l (at + 1))
+    get_or (in_queue ∷ in_station ∷ in_stage ∷ in_unit ∷ []) (byte_at l at) (λ (i : ℕ). on_offer) (number_at l (at + 1))
 
 -- A byte, and an index, which counts for a source and a write alone.
 unfoldable pub field_at : Reader Field
 field_at l at =
-    get_or ((λ i. disassembly) ∷ (λ i. destination) ∷ (λ i. fault-note) ∷ source ∷ []) (byte_at l at) write (number_at l (at + 1))
+    get_or ((λ i. disassembly) ∷ (λ i. destination) ∷ (λ i. fault_note) ∷ source ∷ []) (byte_at l at) write (number_at l (at + 1))
 
 abbrev pub asks : List (Reader Request)
 asks =
     (λ l at. status_message)
     ∷ (λ l at. slot_text (place_at l (at + 1)) (field_at l (at + 10)))
-    ∷ (λ l at. trace-detail (number_at l (at + 1)))
-    ∷ (λ l at. row-disassembly (number_at l (at + 1)))
-    ∷ (λ l at. stage-name (number_at l (at + 1)))
-    ∷ (λ l at. unit-name (number_at l (at + 1)))
-    ∷ (λ l at. station-label (number_at l (at + 1)))
-    ∷ (λ l at. rename-register (number_at l (at + 1)))
+    ∷ (λ l at. trace_detail (number_at l (at + 1)))
+    ∷ (λ l at. row_disassembly (number_at l (at + 1)))
+    ∷ (λ l at. stage_name (number_at l (at + 1)))
+    ∷ (λ l at. unit_name (number_at l (at + 1)))
+    ∷ (λ l at. station_label (number_at l (at + 1)))
+    ∷ (λ l at. rename_register (number_at l (at + 1)))
     ∷ (λ l at. cell_label (number_at l (at + 1)))
     ∷ (λ l at. operand_register (number_at l (at + 1)) (number_at l (at + 9)))
     ∷ []

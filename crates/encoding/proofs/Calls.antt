@@ -11,26 +11,26 @@ use Rattle.laws.specs.Texts.{Text}
 use Rattle.laws.proofs.Tests.{and_yes}
 use Rattle.model.specs.Requests.{
   Place,
-  in-queue,
-  in-station,
-  in-stage,
-  in-unit,
+  in_queue,
+  in_station,
+  in_stage,
+  in_unit,
   on_offer,
   Field,
   disassembly,
   destination,
-  fault as fault-note,
+  fault as fault_note,
   source,
   write,
   Request,
   status_message,
   slot_text,
-  trace-detail,
-  row-disassembly,
-  stage-name,
-  unit-name,
-  station-label,
-  rename-register,
+  trace_detail,
+  row_disassembly,
+  stage_name,
+  unit_name,
+  station_label,
+  rename_register,
   cell_label,
   operand_register,
 }
@@ -41,27 +41,27 @@ use Rattle.model.specs.Calls.{
   enabled,
   fetch_pc,
   resume_pc,
-  stage-count,
+  stage_count,
   edges,
   entry_stages,
   stage_order,
-  unit-count,
-  trace-count,
-  timeline-len,
-  station-count,
-  rename-count,
-  queue-count,
-  buffer-count,
-  buffer-capacity,
+  unit_count,
+  trace_count,
+  timeline_len,
+  station_count,
+  rename_count,
+  queue_count,
+  buffer_count,
+  buffer_capacity,
   in_flight_before,
   stage,
   unit,
   trace,
-  timeline-row,
+  timeline_row,
   station,
   rename,
   queued,
-  buffer-entry,
+  buffer_entry,
   Call,
   start,
   retire,
@@ -126,54 +126,54 @@ module _ {l : List ℕ} {at : ℕ} where
   view-read enabled w s = reading-numbers [] tt s refl (λ r. refl) refl
   view-read fetch_pc w s = reading-numbers [] tt s refl (λ r. refl) refl
   view-read resume_pc w s = reading-numbers [] tt s refl (λ r. refl) refl
-  view-read stage-count w s = reading-numbers [] tt s refl (λ r. refl) refl
+  view-read stage_count w s = reading-numbers [] tt s refl (λ r. refl) refl
   view-read edges w s = reading-numbers [] tt s refl (λ r. refl) refl
   view-read entry_stages w s = reading-numbers [] tt s refl (λ r. refl) refl
   view-read stage_order w s = reading-numbers [] tt s refl (λ r. refl) refl
-  view-read unit-count w s = reading-numbers [] tt s refl (λ r. refl) refl
-  view-read trace-count w s = reading-numbers [] tt s refl (λ r. refl) refl
-  view-read timeline-len w s = reading-numbers [] tt s refl (λ r. refl) refl
-  view-read station-count w s = reading-numbers [] tt s refl (λ r. refl) refl
-  view-read rename-count w s = reading-numbers [] tt s refl (λ r. refl) refl
-  view-read queue-count w s = reading-numbers [] tt s refl (λ r. refl) refl
-  view-read buffer-count w s = reading-numbers [] tt s refl (λ r. refl) refl
-  view-read buffer-capacity w s = reading-numbers [] tt s refl (λ r. refl) refl
+  view-read unit_count w s = reading-numbers [] tt s refl (λ r. refl) refl
+  view-read trace_count w s = reading-numbers [] tt s refl (λ r. refl) refl
+  view-read timeline_len w s = reading-numbers [] tt s refl (λ r. refl) refl
+  view-read station_count w s = reading-numbers [] tt s refl (λ r. refl) refl
+  view-read rename_count w s = reading-numbers [] tt s refl (λ r. refl) refl
+  view-read queue_count w s = reading-numbers [] tt s refl (λ r. refl) refl
+  view-read buffer_count w s = reading-numbers [] tt s refl (λ r. refl) refl
+  view-read buffer_capacity w s = reading-numbers [] tt s refl (λ r. refl) refl
   view-read (in_flight_before i) w s = indexed in_flight_before i w s refl refl refl
   view-read (stage i) w s = indexed stage i w s refl refl refl
   view-read (unit i) w s = indexed unit i w s refl refl refl
   view-read (trace i) w s = indexed trace i w s refl refl refl
-  view-read (timeline-row i) w s = indexed timeline-row i w s refl refl refl
+  view-read (timeline_row i) w s = indexed timeline_row i w s refl refl refl
   view-read (station i) w s = indexed station i w s refl refl refl
   view-read (rename i) w s = indexed rename i w s refl refl refl
   view-read (queued i) w s = indexed queued i w s refl refl refl
-  view-read (buffer-entry i) w s = indexed buffer-entry i w s refl refl refl
+  view-read (buffer_entry i) w s = indexed buffer_entry i w s refl refl refl
 
 -- ---- texts
 
 place-below : (p : Place) → (place_part p).0 < 5
 unfolding place_part
-place-below (in-queue i) = omega arith
-place-below (in-station i) = omega arith
-place-below (in-stage i) = omega arith
-place-below (in-unit i) = omega arith
+place-below (in_queue i) = omega arith
+place-below (in_station i) = omega arith
+place-below (in_stage i) = omega arith
+place-below (in_unit i) = omega arith
 place-below on_offer = omega arith
 
 codes-place : (p : Place) → WithinPlace p → Codes (λ x. part_bytes (place_part x)) place_at 9 p
 unfolding place_at place_part
-codes-place p w = codes-part place_part (λ b i. get_or (in-queue ∷ in-station ∷ in-stage ∷ in-unit ∷ []) b (λ (j : ℕ). on_offer) i) (place-below p) w (back p)
+codes-place p w = codes-part place_part (λ b i. get_or (in_queue ∷ in_station ∷ in_stage ∷ in_unit ∷ []) b (λ (j : ℕ). on_offer) i) (place-below p) w (back p)
   where
-    back : (q : Place) → get_or (in-queue ∷ in-station ∷ in-stage ∷ in-unit ∷ []) (place_part q).0 (λ (j : ℕ). on_offer) (place_part q).1 ≡ q
-    back (in-queue i) = refl
-    back (in-station i) = refl
-    back (in-stage i) = refl
-    back (in-unit i) = refl
+    back : (q : Place) → get_or (in_queue ∷ in_station ∷ in_stage ∷ in_unit ∷ []) (place_part q).0 (λ (j : ℕ). on_offer) (place_part q).1 ≡ q
+    back (in_queue i) = refl
+    back (in_station i) = refl
+    back (in_stage i) = refl
+    back (in_unit i) = refl
     back on_offer = refl
 
 field_below : (f : Field) → (field_part f).0 < 5
 unfolding field_part
 field_below disassembly = omega arith
 field_below destination = omega arith
-field_below fault-note = omega arith
+field_below fault_note = omega arith
 field_below (source j) = omega arith
 field_below (write j) = omega arith
 
@@ -182,12 +182,12 @@ unfolding field_at field_part
 codes-field f w = codes-part field_part of (field_below f) w (back f)
   where
     of : ℕ → ℕ → Field
-    of b i = get_or ((λ j. disassembly) ∷ (λ j. destination) ∷ (λ j. fault-note) ∷ source ∷ []) b write i
+    of b i = get_or ((λ j. disassembly) ∷ (λ j. destination) ∷ (λ j. fault_note) ∷ source ∷ []) b write i
 
     back : (g : Field) → of (field_part g).0 (field_part g).1 ≡ g
     back disassembly = refl
     back destination = refl
-    back fault-note = refl
+    back fault_note = refl
     back (source j) = refl
     back (write j) = refl
 
@@ -205,12 +205,12 @@ module _ {l : List ℕ} {at : ℕ} where
       refl (below 5 1 l (at + 1) && below 5 1 l (at + 10)) refl refl
       (ap₂ slot_text ((codes-place p w.0).reads s1) ((codes-field f w.1).reads s10)) ((codes-number fits).reads s19) h
       (and_yes (part-formed (place_part p) (place-below p) s1) (part-formed (field_part f) (field_below f) s10))
-  request-read (trace-detail i) room w h s = asked trace-detail i room w h s refl refl refl refl
-  request-read (row-disassembly i) room w h s = asked row-disassembly i room w h s refl refl refl refl
-  request-read (stage-name i) room w h s = asked stage-name i room w h s refl refl refl refl
-  request-read (unit-name i) room w h s = asked unit-name i room w h s refl refl refl refl
-  request-read (station-label i) room w h s = asked station-label i room w h s refl refl refl refl
-  request-read (rename-register i) room w h s = asked rename-register i room w h s refl refl refl refl
+  request-read (trace_detail i) room w h s = asked trace_detail i room w h s refl refl refl refl
+  request-read (row_disassembly i) room w h s = asked row_disassembly i room w h s refl refl refl refl
+  request-read (stage_name i) room w h s = asked stage_name i room w h s refl refl refl refl
+  request-read (unit_name i) room w h s = asked unit_name i room w h s refl refl refl refl
+  request-read (station_label i) room w h s = asked station_label i room w h s refl refl refl refl
+  request-read (rename_register i) room w h s = asked rename_register i room w h s refl refl refl refl
   request-read (cell_label i) room w h s = asked cell_label i room w h s refl refl refl refl
   request-read (operand_register i j) room w h s =
       reading-asked (i ∷ j ∷ room ∷ []) (w.0, (w.1, (omega arith, tt))) s refl refl refl (λ r. (ap₂ operand_register r.0 r.1.0, r.1.1.0)) h

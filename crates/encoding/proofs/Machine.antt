@@ -103,8 +103,8 @@ module _ (d : PipelineShape) (entry lent : ℕ) (w : WithinShape d) (e : Number 
       (λ l at. take (length d.units) (parts_at kind_at 28 16 l at) ++ replicate (length d.units - 16) generic_unit) 448 d.units
   kinds = codes-few codes-kind 16 spare_kind generic_unit d.units spare-within w.units
 
-  abbrev stage-count : Codes byte byte_at 1 (length d.stages)
-  stage-count = codes-count (length d.stages) (omega (arith, w.stages))
+  abbrev stage_count : Codes byte byte_at 1 (length d.stages)
+  stage_count = codes-count (length d.stages) (omega (arith, w.stages))
 
   abbrev kind-count : Codes byte byte_at 1 (length d.units)
   kind-count = codes-count (length d.units) (omega (arith, w.units.0))
@@ -112,7 +112,7 @@ module _ (d : PipelineShape) (entry lent : ℕ) (w : WithinShape d) (e : Number 
   machine-form : Forms 555 (machine_parts d entry lent)
   machine-form =
       forms-next times.form (forms-next fixed.form (forms-next (codes-number e).form
-      (forms-next (codes-number w.history).form (forms-next (codes-number m).form (forms-next stage-count.form
+      (forms-next (codes-number w.history).form (forms-next (codes-number m).form (forms-next stage_count.form
       (forms-next stages.form (forms-next kind-count.form (forms-next kinds.form forms-end))))))))
 
   roles-formed : {ps : List (List ℕ)} {l : List ℕ} {at : ℕ} → Stands (parts_bytes role_bytes 16 Fetch d.stages ∷ ps) l at → below 8 16 l at ≡ true
@@ -137,12 +137,12 @@ module _ (d : PipelineShape) (entry lent : ℕ) (w : WithinShape d) (e : Number 
       let s73 = next (codes-number e) 0 65 s65 in
       let s81 = next (codes-number w.history) 0 73 s73 in
       let s89 = next (codes-number m) 0 81 s81 in
-      let s90 = next stage-count 0 89 s89 in
+      let s90 = next stage_count 0 89 s89 in
       let s106 = next stages 0 90 s90 in
       let s107 = next kind-count 0 106 s106 in
       record {
         shape = λ i.
-            pipeline_shape ((ap (λ n. padded Other n (parts_at role_at 1 16 l 90)) (stage-count.reads s89) ∙ stages.reads s90) i)
+            pipeline_shape ((ap (λ n. padded Other n (parts_at role_at 1 16 l 90)) (stage_count.reads s89) ∙ stages.reads s90) i)
             (fixed.reads s56 i) (timing-of (times.reads s0 i))
             ((ap (λ n. padded generic_unit n (parts_at kind_at 28 16 l 107)) (kind-count.reads s106) ∙ kinds.reads s107) i)
             ((codes-number w.history).reads s73 i);

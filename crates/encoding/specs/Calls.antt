@@ -3,26 +3,26 @@ use Rattle.std.specs.Prelude.{ℕ}
 use mathlib.Core.List.{List, [], ◌∷◌, ◌++◌, map, flatten}
 use Rattle.model.specs.Requests.{
   Place,
-  in-queue,
-  in-station,
-  in-stage,
-  in-unit,
+  in_queue,
+  in_station,
+  in_stage,
+  in_unit,
   on_offer,
   Field,
   disassembly,
   destination,
-  fault as fault-note,
+  fault as fault_note,
   source,
   write,
   Request,
   status_message,
   slot_text,
-  trace-detail,
-  row-disassembly,
-  stage-name,
-  unit-name,
-  station-label,
-  rename-register,
+  trace_detail,
+  row_disassembly,
+  stage_name,
+  unit_name,
+  station_label,
+  rename_register,
   cell_label,
   operand_register,
 }
@@ -33,27 +33,27 @@ use Rattle.model.specs.Calls.{
   enabled,
   fetch_pc,
   resume_pc,
-  stage-count,
+  stage_count,
   edges,
   entry_stages,
   stage_order,
-  unit-count,
-  trace-count,
-  timeline-len,
-  station-count,
-  rename-count,
-  queue-count,
-  buffer-count,
-  buffer-capacity,
+  unit_count,
+  trace_count,
+  timeline_len,
+  station_count,
+  rename_count,
+  queue_count,
+  buffer_count,
+  buffer_capacity,
   in_flight_before,
   stage,
   unit,
   trace,
-  timeline-row,
+  timeline_row,
   station,
   rename,
   queued,
-  buffer-entry,
+  buffer_entry,
   Call,
   start,
   retire,
@@ -86,40 +86,40 @@ view_part stats = (13, [])
 view_part enabled = (14, [])
 view_part fetch_pc = (15, [])
 view_part resume_pc = (16, [])
-view_part stage-count = (17, [])
+view_part stage_count = (17, [])
 view_part edges = (18, [])
 view_part entry_stages = (19, [])
 view_part stage_order = (20, [])
-view_part unit-count = (21, [])
-view_part trace-count = (22, [])
-view_part timeline-len = (23, [])
-view_part station-count = (24, [])
-view_part rename-count = (25, [])
-view_part queue-count = (26, [])
-view_part buffer-count = (27, [])
-view_part buffer-capacity = (28, [])
+view_part unit_count = (21, [])
+view_part trace_count = (22, [])
+view_part timeline_len = (23, [])
+view_part station_count = (24, [])
+view_part rename_count = (25, [])
+view_part queue_count = (26, [])
+view_part buffer_count = (27, [])
+view_part buffer_capacity = (28, [])
 view_part (in_flight_before i) = (29, i ∷ [])
 view_part (stage i) = (30, i ∷ [])
 view_part (unit i) = (31, i ∷ [])
 view_part (trace i) = (32, i ∷ [])
-view_part (timeline-row i) = (33, i ∷ [])
+view_part (timeline_row i) = (33, i ∷ [])
 view_part (station i) = (34, i ∷ [])
 view_part (rename i) = (35, i ∷ [])
 view_part (queued i) = (36, i ∷ [])
-view_part (buffer-entry i) = (37, i ∷ [])
+view_part (buffer_entry i) = (37, i ∷ [])
 
 -- The byte that says which place, and its index.
 unfoldable pub place_part : Place → ℕ × ℕ
-place_part (in-queue i) = (0, i)
-place_part (in-station i) = (1, i)
-place_part (in-stage i) = (2, i)
-place_part (in-unit i) = (3, i)
+place_part (in_queue i) = (0, i)
+place_part (in_station i) = (1, i)
+place_part (in_stage i) = (2, i)
+place_part (in_unit i) = (3, i)
 place_part on_offer = (4, 0)
 
 unfoldable pub field_part : Field → ℕ × ℕ
 field_part disassembly = (0, 0)
 field_part destination = (1, 0)
-field_part fault-note = (2, 0)
+field_part fault_note = (2, 0)
 field_part (source j) = (3, j)
 field_part (write j) = (4, j)
 
@@ -130,12 +130,12 @@ part_bytes p = byte p.0 ++ number_bytes p.1
 abbrev pub request_parts : Request → ℕ → List (List ℕ)
 request_parts status_message room = numbered 39 (room ∷ [])
 request_parts (slot_text p f) room = byte 40 ∷ part_bytes (place_part p) ∷ part_bytes (field_part f) ∷ number_bytes room ∷ []
-request_parts (trace-detail i) room = numbered 41 (i ∷ room ∷ [])
-request_parts (row-disassembly i) room = numbered 42 (i ∷ room ∷ [])
-request_parts (stage-name i) room = numbered 43 (i ∷ room ∷ [])
-request_parts (unit-name i) room = numbered 44 (i ∷ room ∷ [])
-request_parts (station-label i) room = numbered 45 (i ∷ room ∷ [])
-request_parts (rename-register i) room = numbered 46 (i ∷ room ∷ [])
+request_parts (trace_detail i) room = numbered 41 (i ∷ room ∷ [])
+request_parts (row_disassembly i) room = numbered 42 (i ∷ room ∷ [])
+request_parts (stage_name i) room = numbered 43 (i ∷ room ∷ [])
+request_parts (unit_name i) room = numbered 44 (i ∷ room ∷ [])
+request_parts (station_label i) room = numbered 45 (i ∷ room ∷ [])
+request_parts (rename_register i) room = numbered 46 (i ∷ room ∷ [])
 request_parts (cell_label n) room = numbered 47 (n ∷ room ∷ [])
 request_parts (operand_register i j) room = numbered 48 (i ∷ j ∷ room ∷ [])
 

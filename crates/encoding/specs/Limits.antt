@@ -12,12 +12,12 @@ use Rattle.model.specs.Requests.{
   Request,
   status_message,
   slot_text,
-  trace-detail,
-  row-disassembly,
-  stage-name,
-  unit-name,
-  station-label,
-  rename-register,
+  trace_detail,
+  row_disassembly,
+  stage_name,
+  unit_name,
+  station_label,
+  rename_register,
   cell_label,
   operand_register,
 }
@@ -101,12 +101,12 @@ WithinField f = Number (field_part f).1
 abbrev pub WithinRequest : Request → Type 0
 WithinRequest status_message = Unit {0}
 WithinRequest (slot_text p f) = WithinPlace p × WithinField f
-WithinRequest (trace-detail i) = Number i
-WithinRequest (row-disassembly i) = Number i
-WithinRequest (stage-name i) = Number i
-WithinRequest (unit-name i) = Number i
-WithinRequest (station-label i) = Number i
-WithinRequest (rename-register i) = Number i
+WithinRequest (trace_detail i) = Number i
+WithinRequest (row_disassembly i) = Number i
+WithinRequest (stage_name i) = Number i
+WithinRequest (unit_name i) = Number i
+WithinRequest (station_label i) = Number i
+WithinRequest (rename_register i) = Number i
 WithinRequest (cell_label n) = Number n
 WithinRequest (operand_register i j) = Number i × Number j
 

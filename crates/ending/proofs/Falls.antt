@@ -194,7 +194,7 @@ module _ (p : ℕ → Bool) (down : Down p) where
             let x = no_units s.units (λ j v a b. up u.op.core.seq v.op.core.seq (o.least j v a b) e) in
             let y =
             no_queue s.queue s.front.next_seq u.op.core.seq h.queue_rising
-            (h.before-queue i u (busy-holds s i u o.at o.busy)) e in
+            (h.before_queue i u (busy-holds s i u o.at o.busy)) e in
             absurd (omega (arith, l, x, y))
 
         go : Quiet s.units ⊎ ((i : ℕ) × (u : FunctionalUnit) × Oldest s.units i u) → share p last < share p s

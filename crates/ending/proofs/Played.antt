@@ -10,7 +10,7 @@ use Rattle.model.specs.State.{Front, State}
 use Rattle.model.specs.Timeline.{timeline, write_all}
 use Rattle.model.specs.Units.{unit_at}
 use Rattle.model.specs.Write.{start_cycle, writing}
-use Rattle.model.specs.Scoreboard.{advance as do-advance, advance_writes}
+use Rattle.model.specs.Scoreboard.{advance as do_advance, advance_writes}
 use Rattle.model.specs.Calls.{Call, advance, calls, checks, refusal, retire, run, sets, short_memory, start}
 use Rattle.model.specs.Forecast.{Lent, cycle, forecasts, lent_of, play, retire_offer}
 use Rattle.refusals.proofs.Demand1.{all-fail}
@@ -47,7 +47,7 @@ retire-played t m c f = go t.offer.writing refl
 advance-played
     : (t : State) (m : List ℕ) (n : ℕ) → t.front.in_cycle ≡ true → (not (is_none t.offer.writing) && not t.offer.retired) ≡ false
     → short_memory t n ≡ false
-    → play (advance none n) (lent_of t m) ≡ lent_of (do-advance none t) (write_all (advance_writes none t) m)
+    → play (advance none n) (lent_of t m) ≡ lent_of (do_advance none t) (write_all (advance_writes none t) m)
 unfolding calls
 advance-played t m n c u l = play-taken (advance none n) t m (all-fail (checks t (advance none n)) (ap not c, (u, (l, tt))))
 
@@ -86,7 +86,7 @@ cycle-played s m out l =
     u : State
     u = settled t.offer.writing t
 
-    all : cycle (lent_of s m) ≡ lent_of (do-advance none u) (write_all (advance_writes none u) m)
+    all : cycle (lent_of s m) ≡ lent_of (do_advance none u) (write_all (advance_writes none u) m)
     all =
         ap (λ (x : Lent). play (advance none (length m)) (retire_offer x)) (start-played s m out)
         ∙ ap (play (advance none (length m))) (retire-played t m (started-open s).0 (started-open s).1)

@@ -90,7 +90,7 @@ kind-free
 kind-free s t h m p q c =
     let same : length t.machine.specs ≡ length s.machine.specs = ap (λ (x : Machine). length x.specs) m in
     let k = spec_known t.machine.specs c (omega (arith, same, h.kinds_fit.some_kind)) in
-    there (h.kind-has-unit (spec_index t.machine.specs c) (omega (arith, same, k)))
+    there (h.kind_has_unit (spec_index t.machine.specs c) (omega (arith, same, k)))
   where
     there
         : (i : ℕ) × (u : FunctionalUnit) × (nth s.units i ≡ some u) × (u.spec ≡ spec_index t.machine.specs c)

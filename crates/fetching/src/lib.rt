@@ -52,7 +52,7 @@ fn queued(
     }
 }
 
-// model: Timeline.row-of, what stays
+// model: Timeline.row_of, what stays
 pub fn row_of(op: PipelineOp) -> RowText
     requires { bad_info (view_op op).info ≡ false }
     ensures { Means (λ (x : RowText). x) RowTextOk result (row_text op) }

@@ -10,7 +10,7 @@ use Rattle.laws.proofs.Tests.{omap-some, omap-none}
 use Rattle.laws.proofs.Slices.{seen-nth, nth_end}
 use Rattle.laws.proofs.Maps.{nth-map}
 use Rattle.capability.specs.declared.MaybeRole.{MaybeRole}
-use Rattle.capability.specs.declared.MaybeRole.TheVariants as a-role
+use Rattle.capability.specs.declared.MaybeRole.TheVariants as a_role
 use Rattle.capability.specs.declared.PipelineHazardKind.{PipelineHazardKind}
 use Rattle.capability.specs.declared.PipelineInstructionClass.{PipelineInstructionClass}
 use Rattle.capability.specs.declared.PipelineStageRole.{PipelineStageRole}
@@ -57,13 +57,13 @@ staged v r = record { role = r; slot = v }
 
 -- m is the role at place i.
 module _ (s : State) (i : ℕ) {m : MaybeRole} (e : maybe_role m ≡ nth stage_roles i) where
-  pub stage-there : {r : PipelineStageRole} (v : MaybeSlot) → m ≡ a-role.Some r → view_maybe_slot v ≡ omap slot_view (stage_op s i)
+  pub stage-there : {r : PipelineStageRole} (v : MaybeSlot) → m ≡ a_role.Some r → view_maybe_slot v ≡ omap slot_view (stage_op s i)
       → view_maybe_stage (stage.Some (record { role = r; slot = v })) ≡ stage_view s i
   unfolding inspected stage_view
   stage-there {r} v t h =
       ap (λ x. some (staged x r)) h ∙ sym (omap-some (staged (omap slot_view (stage_op s i))) (sym e ∙ ap maybe_role t))
 
-  pub stage-past : m ≡ a-role.Nothing → view_maybe_stage stage.Nothing ≡ stage_view s i
+  pub stage-past : m ≡ a_role.Nothing → view_maybe_stage stage.Nothing ≡ stage_view s i
   unfolding inspected stage_view
   stage-past t = sym (omap-none (staged (omap slot_view (stage_op s i))) (sym e ∙ ap maybe_role t))
 

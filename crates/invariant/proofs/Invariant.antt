@@ -116,10 +116,10 @@ module _ (s : State) (h : Kept s) where
         units_some = many.0;
         units_few = omega (arith, many.1);
         units_built = z.built;
-        kind-has-unit = kind-unit s z.built.0 z.built.1;
+        kind_has_unit = kind-unit s z.built.0 z.built.1;
         units_fit =
             all-every (UnitFits (length s.machine.specs) (length s.names)) s.units (λ i u e. (h.local i u e).fits);
-        free-blank = λ i u e l. (h.local i u e).blank l;
+        free_blank = λ i u e l. (h.local i u e).blank l;
         names_few = omega (arith, known-few s h.names);
         names_with_queue = h.names;
         names_distinct = λ j k a e q. one_place s.names a j k z.distinct e q;
@@ -128,9 +128,9 @@ module _ (s : State) (h : Kept s) where
         queue_short = z.short;
         queue_fits = z.queued;
         queue_rising = h.flight.rising;
-        before-queue = λ i u a. c.young i (entry u) (to-entry s i u a);
+        before_queue = λ i u a. c.young i (entry u) (to-entry s i u a);
         before_next = λ i u a. let x = c.young i (entry u) (to-entry s i u a) in omega arith;
-        number-distinct = λ i j u v a b e. c.apart i j (entry u) (entry v) (to-entry s i u a) (to-entry s j v b) e;
+        number_distinct = λ i j u v a b e. c.apart i j (entry u) (entry v) (to-entry s i u a) (to-entry s j v b) e;
         next_few = z.few;
         next_row_is_number = z.level;
         claimed = λ i u r a m. c.claims i (entry u) r (to-entry s i u a) m;
@@ -146,11 +146,11 @@ module _ (s : State) (h : Kept s) where
               (v.0, v.1, subst (λ (x : Entry). x.seq < u.op.core.seq) (sym v.2) w.2.2),
               (h.local i u a.there).fits.waits_early (non-empty r k u.pending m),
             );
-        unwaiting-older = λ i u r k a m w e. older i u k (c.readers i (entry u) r k (to-entry s i u a) m w e);
+        unwaiting_older = λ i u r k a m w e. older i u k (c.readers i (entry u) r k (to-entry s i u a) m w e);
         branch_mark = mark-facts s.marks.branch (λ e. e.redirects) c.branch;
-        branch-youngest = λ i j u v a t b. c.branch.youngest i j (entry u) (entry v) (to-entry s i u a) t (to-entry s j v b);
-        system-mark = mark-facts s.marks.system (λ e. e.system) c.sys;
-        system-youngest = λ i j u v a t b. c.sys.youngest i j (entry u) (entry v) (to-entry s i u a) t (to-entry s j v b);
+        branch_youngest = λ i j u v a t b. c.branch.youngest i j (entry u) (entry v) (to-entry s i u a) t (to-entry s j v b);
+        system_mark = mark-facts s.marks.system (λ e. e.system) c.sys;
+        system_youngest = λ i j u v a t b. c.sys.youngest i j (entry u) (entry v) (to-entry s i u a) t (to-entry s j v b);
         rows_few = z.rows_few;
         rows_numbered = z.ids;
         rows_fit = z.rows;
@@ -206,11 +206,11 @@ module _ (s : State) (h : Invariant s) where
   kept-consistent =
       record {
         young = λ i e a.
-            let v = from-entry s i e a in omega (arith, h.before-queue i v.0 v.1, ap seq_of v.2);
+            let v = from-entry s i e a in omega (arith, h.before_queue i v.0 v.1, ap seq_of v.2);
         apart = λ i j e f a b q.
             let v = from-entry s i e a in
             let w = from-entry s j f b in
-            h.number-distinct i j v.0 w.0 v.1 w.1 (ap seq_of v.2 ∙ q ∙ sym (ap seq_of w.2));
+            h.number_distinct i j v.0 w.0 v.1 w.1 (ap seq_of v.2 ∙ q ∙ sym (ap seq_of w.2));
         claims = λ i e r a m.
             let v = from-entry s i e a in
             h.claimed i v.0 r v.1 (subst (λ (x : Entry). In r x.destinations) (sym v.2) m);
@@ -226,10 +226,10 @@ module _ (s : State) (h : Invariant s) where
         readers = λ i e r k a m w q.
             let v = from-entry s i e a in
             younger i e v.0 k v.2
-            (h.unwaiting-older i v.0 r k v.1 (subst (λ (x : Entry). In r x.sources) (sym v.2) m)
+            (h.unwaiting_older i v.0 r k v.1 (subst (λ (x : Entry). In r x.sources) (sym v.2) m)
             (λ j x. w j (subst (λ (y : Entry). In {A = ℕ × ℕ} (r, j) y.pending) v.2 x)) q);
-        branch = mark-kept s.marks.branch (λ e. e.redirects) h.branch_mark h.branch-youngest;
-        sys = mark-kept s.marks.system (λ e. e.system) h.system-mark h.system-youngest;
+        branch = mark-kept s.marks.branch (λ e. e.redirects) h.branch_mark h.branch_youngest;
+        sys = mark-kept s.marks.system (λ e. e.system) h.system_mark h.system_youngest;
       }
 
   none-held : stops s ≡ true → (i : ℕ) → in_flight s i ≡ none
@@ -245,7 +245,7 @@ module _ (s : State) (h : Invariant s) where
         flight = record { core = kept-consistent; rising = h.queue_rising; offers = h.offer_unit };
         local = λ i u e.
             record {
-              blank = h.free-blank i u e;
+              blank = h.free_blank i u e;
               fits = all-at (UnitFits (length s.machine.specs) (length s.names)) s.units i u e h.units_fit;
             };
         sizes =

@@ -147,12 +147,12 @@ pub record Invariant (s : State) : Type 0 where
   pub units_some : 1 ≤ length s.units
   pub units_few : length s.units ≤ 64
   pub units_built : (ks : List UnitSpec) × Built s ks
-  pub kind-has-unit
+  pub kind_has_unit
       : (k : ℕ) → k < length s.machine.specs → (i : ℕ) × (u : FunctionalUnit) × (nth s.units i ≡ some u) × (u.spec ≡ k)
   -- Each unit's kind is one of the machine's; its lists have at most 8 sources, 4 destinations and 8 waits, of registers known.
   pub units_fit : All (UnitFits (length s.machine.specs) (length s.names)) s.units
   -- A unit that is free, its result not on offer, has empty lists.
-  pub free-blank
+  pub free_blank
       : (i : ℕ) (u : FunctionalUnit) → nth s.units i ≡ some u → occupied s.offer.writing i u ≡ false → Blank u
   -- Names: at most 256, also with those of queued operations, and no two the same; a register for each. Each is a text of at most 16 bytes.
   pub names_few : length s.names ≤ 256
@@ -165,10 +165,10 @@ pub record Invariant (s : State) : Type 0 where
   pub queue_fits : All OperationFits s.queue
   -- Numbers: rising in the queue, distinct in the units and below those queued; the next one is at most 2^64 - 1.
   pub queue_rising : Rising s.queue s.front.next_seq
-  pub before-queue
+  pub before_queue
       : (i : ℕ) (u : FunctionalUnit) → Holds s i u → u.op.core.seq < front_number s.queue s.front.next_seq
   pub before_next : (i : ℕ) (u : FunctionalUnit) → Holds s i u → u.op.core.seq < s.front.next_seq
-  pub number-distinct
+  pub number_distinct
       : (i j : ℕ) (u v : FunctionalUnit) → Holds s i u → Holds s j v → u.op.core.seq ≡ v.op.core.seq → i ≡ j
   pub next_few : s.front.next_seq ≤ max64
   pub next_row_is_number : s.front.next_row ≡ s.front.next_seq
@@ -183,17 +183,17 @@ pub record Invariant (s : State) : Type 0 where
       → In r u.sources × (producer_of s.producer r ≡ some k)
       × ((v : FunctionalUnit) × Holds s k v × v.op.core.seq < u.op.core.seq) × (u.phase ≡ Wait)
   -- WAR: a unit that reads a register and does not wait for it is older than another that claims it.
-  pub unwaiting-older
+  pub unwaiting_older
       : (i : ℕ) (u : FunctionalUnit) (r k : ℕ) → Holds s i u → In r u.sources
       → ((m : ℕ) → In {A = ℕ × ℕ} (r, m) u.pending → ⊥) → producer_of s.producer r ≡ some k
       → (k ≡ i) ⊎ ((v : FunctionalUnit) × Holds s k v × u.op.core.seq < v.op.core.seq)
   -- A mark stands exactly while a branch, or a system operation, is in flight; nothing in a unit is then younger.
   pub branch_mark : (s.marks.branch ≡ true) ↔ ((i : ℕ) × (u : FunctionalUnit) × Holds s i u × (u.redirects ≡ true))
-  pub branch-youngest
+  pub branch_youngest
       : (i j : ℕ) (u v : FunctionalUnit) → Holds s i u → u.redirects ≡ true → Holds s j v → v.op.core.seq ≤ u.op.core.seq
-  pub system-mark
+  pub system_mark
       : (s.marks.system ≡ true) ↔ ((i : ℕ) × (u : FunctionalUnit) × Holds s i u × (is_system u.class ≡ true))
-  pub system-youngest
+  pub system_youngest
       : (i j : ℕ) (u v : FunctionalUnit) → Holds s i u → is_system u.class ≡ true → Holds s j v
       → v.op.core.seq ≤ u.op.core.seq
   -- The timeline: as many rows as its history at most, ids one after the other; each row has 1 to 200 cells.

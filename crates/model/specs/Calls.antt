@@ -11,10 +11,10 @@ use Rattle.model.specs.Op.{Info, Given, Op}
 use Rattle.model.specs.Registers.{intern_all}
 use Rattle.model.specs.Timeline.{Write, open_writes, clear_writes, write_all}
 use Rattle.model.specs.State.{Stats, State, new}
-use Rattle.model.specs.Write.{offered_op, start_cycle, retire as do-retire, retry as do-retry, resolve_branch, halt as do-halt, fault as do-fault}
+use Rattle.model.specs.Write.{offered_op, start_cycle, retire as do_retire, retry as do_retry, resolve_branch, halt as do_halt, fault as do_fault}
 use Rattle.model.specs.Issue.{look}
 use Rattle.model.specs.Scoreboard.{
-  advance as do-advance,
+  advance as do_advance,
   advance_looked,
   advance_writes,
   fetched,
@@ -23,7 +23,7 @@ use Rattle.model.specs.Scoreboard.{
   set_enabled,
   reset_to,
   resume_pc as resume,
-  in_flight_before as older-in-flight,
+  in_flight_before as older_in_flight,
 }
 use Rattle.model.specs.Views.{
   SlotView,
@@ -37,8 +37,8 @@ use Rattle.model.specs.Views.{
   stages,
   Edge,
   edges as all_edges,
-  entry_stages as all-entries,
-  stage_order as all-ordered,
+  entry_stages as all_entries,
+  stage_order as all_ordered,
   UnitView,
   unit_view,
   TraceView,
@@ -59,9 +59,9 @@ use Rattle.model.specs.Requests.{Request, text_at, short_for, buffer_with}
 
 -- The views that need no lent memory, under the Rust's names.
 pub data View : Type 0 where
-  status stats enabled fetch_pc resume_pc stage-count edges entry_stages stage_order unit-count trace-count : View
-  timeline-len station-count rename-count queue-count buffer-count buffer-capacity : View
-  in_flight_before stage unit trace timeline-row station rename queued buffer-entry : ℕ → View
+  status stats enabled fetch_pc resume_pc stage_count edges entry_stages stage_order unit_count trace_count : View
+  timeline_len station_count rename_count queue_count buffer_count buffer_capacity : View
+  in_flight_before stage unit trace timeline_row station rename queued buffer_entry : ℕ → View
 
 pub data Call : Type 0 where
   start : Call
@@ -228,41 +228,41 @@ show s stats = shown_stats s.log.stats
 show s enabled = shown_flag s.front.enabled
 show s fetch_pc = shown_number s.front.fetch_pc
 show s resume_pc = shown_number (resume s)
-show s stage-count = shown_number (length stages)
+show s stage_count = shown_number (length stages)
 show s edges = shown_edges all_edges
-show s entry_stages = shown_stages all-entries
-show s stage_order = shown_stages all-ordered
-show s unit-count = shown_number (length s.machine.specs)
-show s trace-count = shown_number (length s.log.traces)
-show s timeline-len = shown_number (length s.log.rows)
-show s station-count = shown_number (length s.units)
-show s rename-count = shown_number (length (claims s))
-show s queue-count = shown_number (length s.queue)
-show s buffer-count = shown_number 0
-show s buffer-capacity = shown_number 0
-show s (in_flight_before n) = shown_flag (older-in-flight n s)
+show s entry_stages = shown_stages all_entries
+show s stage_order = shown_stages all_ordered
+show s unit_count = shown_number (length s.machine.specs)
+show s trace_count = shown_number (length s.log.traces)
+show s timeline_len = shown_number (length s.log.rows)
+show s station_count = shown_number (length s.units)
+show s rename_count = shown_number (length (claims s))
+show s queue_count = shown_number (length s.queue)
+show s buffer_count = shown_number 0
+show s buffer_capacity = shown_number 0
+show s (in_flight_before n) = shown_flag (older_in_flight n s)
 show s (stage i) = shown_stage (stage_view s i)
 show s (unit i) = shown_unit (unit_view s i)
 show s (trace i) = shown_trace (omap trace_view (nth s.log.traces i))
-show s (timeline-row i) = shown_row (omap row_view (nth s.log.rows i))
+show s (timeline_row i) = shown_row (omap row_view (nth s.log.rows i))
 show s (station i) = shown_station (omap (station_view i) (nth s.units i))
 show s (rename i) = shown_rename (nth (claims s) i)
 show s (queued i) = shown_slot (omap slot_view (nth s.queue i))
-show s (buffer-entry i) = shown_slot none
+show s (buffer_entry i) = shown_slot none
 
 -- ── What a call that is not refused leaves, answers, looks at and sets ───────
 
 unfoldable pub run : State → Call → State
 run s start = start_cycle s
-run s retire = do-retire s
-run s (retry reason) = do-retry reason s
+run s retire = do_retire s
+run s (retry reason) = do_retry reason s
 run s (resolve a) = s
-run s (advance r lent) = do-advance r s
+run s (advance r lent) = do_advance r s
 run s (fetch g lent) = fetched g s
 run s (capacity k n) = set_capacity k n s
 run s (overlap b) = set_enabled b s
-run s halt = do-halt s
-run s (fault note) = do-fault note s
+run s halt = do_halt s
+run s (fault note) = do_fault note s
 run s (reset a lent) = reset_to a false s
 run s (redirect a) = reset_to a true s
 run s (view v) = s
@@ -278,7 +278,7 @@ reply s m start = offered (omap offer_view (offered_op (start_cycle s)))
 reply s m retire = done
 reply s m (retry reason) = done
 reply s m (resolve a) = resolved (resolve_branch (offered_op s) a)
-reply s m (advance r lent) = invitation (invitation_of (do-advance r s))
+reply s m (advance r lent) = invitation (invitation_of (do_advance r s))
 reply s m (fetch g lent) = done
 reply s m (capacity k n) = done
 reply s m (overlap b) = done

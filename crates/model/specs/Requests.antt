@@ -16,14 +16,14 @@ use Rattle.model.specs.Views.{stage_op, working, station_op, claims}
 
 -- Where an operation is shown: by queued, station, stage, unit (its first), or handed out by start.
 pub data Place : Type 0 where
-  in-queue in-station in-stage in-unit : ℕ → Place
+  in_queue in_station in_stage in_unit : ℕ → Place
   on_offer : Place
 
 unfoldable pub op_at : State → Place → Option Op
-op_at s (in-queue i) = nth s.queue i
-op_at s (in-station i) = when_some (nth s.units i) none station_op
-op_at s (in-stage i) = stage_op s i
-op_at s (in-unit i) = omap unit_op (working s i)
+op_at s (in_queue i) = nth s.queue i
+op_at s (in_station i) = when_some (nth s.units i) none station_op
+op_at s (in_stage i) = stage_op s i
+op_at s (in_unit i) = omap unit_op (working s i)
 op_at s on_offer = offered_op s
 
 -- A text of an operation; sources and writes by their place in the list.
@@ -41,7 +41,7 @@ field i (write j) = nth i.writes j
 pub data Request : Type 0 where
   status_message : Request
   slot_text : Place → Field → Request
-  trace-detail row-disassembly stage-name unit-name station-label rename-register : ℕ → Request
+  trace_detail row_disassembly stage_name unit_name station_label rename_register : ℕ → Request
   -- of a cell view's label
   cell_label : ℕ → Request
   -- station, operand
@@ -73,12 +73,12 @@ operand_text s u j = omap (name_of s.names) (nth (take 2 u.sources) j)
 unfoldable pub text_at : State → Request → Option Text
 text_at s status_message = s.log.status
 text_at s (slot_text p f) = when_some (op_at s p) none (λ (o : Op). field o.info f)
-text_at s (trace-detail i) = omap (λ (t : Trace). render t.detail) (nth s.log.traces i)
-text_at s (row-disassembly i) = omap (λ (r : Row). r.disassembly) (nth s.log.rows i)
-text_at s (stage-name i) = nth stage_names i
-text_at s (unit-name i) = spec_names s.machine.specs i
-text_at s (station-label i) = omap (station_text s.machine.specs) (nth s.units i)
-text_at s (rename-register i) = omap (λ (p : ℕ × ℕ). name_of s.names p.0) (nth (claims s) i)
+text_at s (trace_detail i) = omap (λ (t : Trace). render t.detail) (nth s.log.traces i)
+text_at s (row_disassembly i) = omap (λ (r : Row). r.disassembly) (nth s.log.rows i)
+text_at s (stage_name i) = nth stage_names i
+text_at s (unit_name i) = spec_names s.machine.specs i
+text_at s (station_label i) = omap (station_text s.machine.specs) (nth s.units i)
+text_at s (rename_register i) = omap (λ (p : ℕ × ℕ). name_of s.names p.0) (nth (claims s) i)
 text_at s (cell_label n) = label_text s.machine.specs n
 text_at s (operand_register i j) = when_some (nth s.units i) none (λ (u : FunctionalUnit). operand_text s u j)
 

@@ -6,7 +6,7 @@ use mathlib.Core.List.{[], ◌∷◌}
 use native.Mathlib.Omega.{arith}
 use Rattle.laws.specs.Optional.{is_none, omap}
 use Rattle.model.specs.State.{State}
-use Rattle.model.specs.Write.{offered_op, start_cycle, retire as do-retire}
+use Rattle.model.specs.Write.{offered_op, start_cycle, retire as do_retire}
 use Rattle.model.specs.Views.{offer_view}
 use Rattle.model.specs.Calls.{first_of, start, retire, offered, no_offer, checks, refusal, run, reply}
 use Rattle.registers.specs.View.{view_held, claimed as index}
@@ -51,8 +51,8 @@ module _ {e : Engine} (v : Valid e) where
     unfolding view_engine view_board refusal checks no_offer
     does-no-retire z = settled-refused v n t z refl
 
-    pub does-retire : no ≡ 0 → {b : Board} → Stays e.board b do-retire → Does e retire (record { engine = with_board b e; answer = a })
-    unfolding view_engine view_board refusal checks no_offer run reply do-retire
+    pub does-retire : no ≡ 0 → {b : Board} → Stays e.board b do_retire → Does e retire (record { engine = with_board b e; answer = a })
+    unfolding view_engine view_board refusal checks no_offer run reply do_retire
     does-retire z {b} s =
         settled-done v n t (with_board b e) z refl (λ m. refl) (s.is (frame_of e))
         (still-parts e b v.parts s.ok s.still (ap (λ (x : State). x.front) (s.is (frame_of e))))

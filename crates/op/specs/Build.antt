@@ -1,5 +1,5 @@
 -- What a caller builds an operation with (op.rs): with_length, branching, atomic, writing, also_writes, reading.
-use Rattle.std.specs.Prelude.{◌≡◌, ℕ, true, cond, ltb, List, [], ◌∷◌, ◌++◌, length, take, nat_lt}
+use Rattle.std.specs.Prelude.{◌≡◌, ℕ, true, cond, ltb, List, [], ◌∷◌, ◌++◌, length, take, ltb}
 use Rattle.std.proofs.Math.Option.{Option, some}
 use Rattle.laws.specs.Texts.{Text}
 use Rattle.model.specs.Op.{decoded, info_of, Given, given}
@@ -15,12 +15,12 @@ indivisible g = given (decoded g.decoded.address g.decoded.size g.decoded.class 
 
 -- One more name after a list of which `most` stand in an array. Past the array's end it is empty, and past 255 there is none.
 unfoldable pub pushed : ℕ → Text → List Text → List Text
-pushed most name l = cond (nat_lt (length l) most) (l ++ name ∷ []) (cond (nat_lt (length l) 255) (l ++ [] ∷ []) l)
+pushed most name l = cond (ltb (length l) most) (l ++ name ∷ []) (cond (ltb (length l) 255) (l ++ [] ∷ []) l)
 
 -- Two lists of names that a fetch takes or refuses alike: the same up to `most`, and both longer than that or neither.
 pub record Alike (most : ℕ) (l m : List Text) : Type 0 where
   pub first : take most l ≡ take most m
-  pub more : ltb most (length l) ≡ nat_lt most (length m)
+  pub more : ltb most (length l) ≡ ltb most (length m)
 
 abbrev pub with_operands : Option Text → List Text → List Text → Given → Given
 with_operands d s w g = given g.decoded (info_of g.info.disassembly g.info.fault d s w g.info.payload)

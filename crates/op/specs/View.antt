@@ -1,5 +1,5 @@
 -- What the structs mean to the model.
-use Rattle.std.specs.Prelude.{ℕ, ◌-◌, cond, List, [], ◌++◌, map, take, replicate, nat_lt}
+use Rattle.std.specs.Prelude.{ℕ, ◌-◌, cond, List, [], ◌++◌, map, take, replicate, ltb}
 use Rattle.std.proofs.Math.Option.{Option, none, some}
 use Rattle.laws.specs.Texts.{Text}
 use Rattle.model.specs.Op.{Given, given, decoded, info_of}
@@ -13,7 +13,7 @@ use Rattle.op.specs.declared.PipelineOp.{PipelineOp}
 
 -- A text of `len` bytes in an array of `most`. Past the array's end it is a text that is too long, whatever the array holds.
 unfoldable pub shown : ℕ → ℕ → List ℕ → Text
-shown most len bytes = cond (nat_lt most len) (replicate len 0) (take len bytes)
+shown most len bytes = cond (ltb most len) (replicate len 0) (take len bytes)
 
 -- A list of `n` names in an array of `most`. Those past the array's end are empty.
 unfoldable pub listed : ℕ → ℕ → List Text → List Text

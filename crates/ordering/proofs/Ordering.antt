@@ -75,9 +75,9 @@ never-orders input cells =
     record {
       between_turns = after;
       at_the_end = subst (λ (r : Run). NoneOrders (waits_of r)) (sym (as-run input cells)) (after (fuel_for input));
-      after-start = λ k e rest n q. let g = at k e rest n q in turn-start input e rest n g.0 g.1;
-      after-retire = λ k e rest n q. let g = at k e rest n q in turn-retire input e rest n g.0 g.1;
-      after-advance = λ k e rest n q. let g = at k e rest n q in (cycle-orderly input e rest n g.0 g.1).waits;
+      after_start = λ k e rest n q. let g = at k e rest n q in turn-start input e rest n g.0 g.1;
+      after_retire = λ k e rest n q. let g = at k e rest n q in turn-retire input e rest n g.0 g.1;
+      after_advance = λ k e rest n q. let g = at k e rest n q in (cycle-orderly input e rest n g.0 g.1).waits;
     }
   where
     after : (k : ℕ) → NoneOrders (waits_of (forecast_run k (begun input cells)))

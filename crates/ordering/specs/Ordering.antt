@@ -79,12 +79,12 @@ pub record Ordering (input : Text) (cells : List ℕ) : Type 0 where
   pub between_turns : (k : ℕ) → NoneOrders (waits_of (forecast_run k (begun input cells)))
   pub at_the_end : NoneOrders (waits_of (forecast_of input cells))
   -- In the turn after k, also where its line is refused: when the cycle has started, when an offer is retired, and after the advance.
-  pub after-start
+  pub after_start
       : (k : ℕ) (e : Lent) (rest : Text) (n : ℕ) → forecast_run k (begun input cells) ≡ going e rest n → NoneOrders (waits (play start e))
-  pub after-retire
+  pub after_retire
       : (k : ℕ) (e : Lent) (rest : Text) (n : ℕ) → forecast_run k (begun input cells) ≡ going e rest n
       → NoneOrders (waits (retire_offer (play start e)))
-  pub after-advance
+  pub after_advance
       : (k : ℕ) (e : Lent) (rest : Text) (n : ℕ) → forecast_run k (begun input cells) ≡ going e rest n → NoneOrders (waits (cycle e))
 
 -- ── What does come ──────────────────────────────────────────────────────────

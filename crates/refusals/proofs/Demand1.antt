@@ -36,27 +36,27 @@ use Rattle.model.specs.Calls.{
   enabled,
   fetch_pc,
   resume_pc,
-  stage-count,
+  stage_count,
   edges,
   entry_stages,
   stage_order,
-  unit-count,
-  trace-count,
-  timeline-len,
-  station-count,
-  rename-count,
-  queue-count,
-  buffer-count,
-  buffer-capacity,
+  unit_count,
+  trace_count,
+  timeline_len,
+  station_count,
+  rename_count,
+  queue_count,
+  buffer_count,
+  buffer_capacity,
   in_flight_before,
   stage,
   unit,
   trace,
-  timeline-row,
+  timeline_row,
   station,
   rename,
   queued,
-  buffer-entry,
+  buffer_entry,
   Answer,
   refused,
   done,
@@ -175,27 +175,27 @@ show-yes s stats = refl
 show-yes s enabled = refl
 show-yes s fetch_pc = refl
 show-yes s resume_pc = refl
-show-yes s stage-count = refl
+show-yes s stage_count = refl
 show-yes s edges = refl
 show-yes s entry_stages = refl
 show-yes s stage_order = refl
-show-yes s unit-count = refl
-show-yes s trace-count = refl
-show-yes s timeline-len = refl
-show-yes s station-count = refl
-show-yes s rename-count = refl
-show-yes s queue-count = refl
-show-yes s buffer-count = refl
-show-yes s buffer-capacity = refl
+show-yes s unit_count = refl
+show-yes s trace_count = refl
+show-yes s timeline_len = refl
+show-yes s station_count = refl
+show-yes s rename_count = refl
+show-yes s queue_count = refl
+show-yes s buffer_count = refl
+show-yes s buffer_capacity = refl
 show-yes s (in_flight_before n) = refl
 show-yes s (stage i) = refl
 show-yes s (unit i) = refl
 show-yes s (trace i) = refl
-show-yes s (timeline-row i) = refl
+show-yes s (timeline_row i) = refl
 show-yes s (station i) = refl
 show-yes s (rename i) = refl
 show-yes s (queued i) = refl
-show-yes s (buffer-entry i) = refl
+show-yes s (buffer_entry i) = refl
 
 reply-yes : (s : State) (m : List ℕ) (c : Call) → says-no (reply s m c) ≡ false
 unfolding reply

@@ -19,9 +19,9 @@ use Rattle.model.specs.Registers.{name_of}
 use Rattle.model.specs.Timeline.{Row, cell_at, timeline}
 use Rattle.model.specs.Units.{FunctionalUnit, is_busy, in_phase, unit_op, units}
 use Rattle.model.specs.State.{State}
-use Rattle.model.specs.Scoreboard.{in_flight, older_op, oldest_op, scoreboard, resume_pc as resume, in_flight_before as older-in-flight}
+use Rattle.model.specs.Scoreboard.{in_flight, older_op, oldest_op, scoreboard, resume_pc as resume, in_flight_before as older_in_flight}
 use Rattle.model.specs.Views.{SlotView, StageView, cell_byte, claims, in_kind, oldest, oldest_in, row_view, shown_class, slot_view, stage_op, stage_roles, stage_view, station_op, station_view, trace_view, unit_view, unit_view_of, views, working}
-use Rattle.model.specs.Requests.{Place, in-queue, in-station, in-stage, in-unit, on_offer, op_at, Field, disassembly, destination, fault as fault-note, source, write, field, Request, status_message, slot_text, trace-detail, row-disassembly, stage-name, unit-name, station-label, rename-register, cell_label, operand_register, operand_text, text_at, requests}
+use Rattle.model.specs.Requests.{Place, in_queue, in_station, in_stage, in_unit, on_offer, op_at, Field, disassembly, destination, fault as fault_note, source, write, field, Request, status_message, slot_text, trace_detail, row_disassembly, stage_name, unit_name, station_label, rename_register, cell_label, operand_register, operand_text, text_at, requests}
 use Rattle.model.specs.Calls.{
   View,
   status,
@@ -29,27 +29,27 @@ use Rattle.model.specs.Calls.{
   enabled,
   fetch_pc,
   resume_pc,
-  stage-count,
+  stage_count,
   edges,
   entry_stages,
   stage_order,
-  unit-count,
-  trace-count,
-  timeline-len,
-  station-count,
-  rename-count,
-  queue-count,
-  buffer-count,
-  buffer-capacity,
+  unit_count,
+  trace_count,
+  timeline_len,
+  station_count,
+  rename_count,
+  queue_count,
+  buffer_count,
+  buffer_capacity,
   in_flight_before,
   stage,
   unit,
   trace,
-  timeline-row,
+  timeline_row,
   station,
   rename,
   queued,
-  buffer-entry,
+  buffer_entry,
   shown_flag,
   shown_number,
   shown_stage,
@@ -110,7 +110,7 @@ bare-resume s =
     go none = refl
     go (some o) = refl
 
-bare-before : (n : ℕ) (s : State) → older-in-flight n (bare hide s) ≡ older-in-flight n s
+bare-before : (n : ℕ) (s : State) → older_in_flight n (bare hide s) ≡ older_in_flight n s
 unfolding scoreboard
 bare-before n s =
     ap (any (λ (o : Op). ltb o.core.seq n)) (bare-flight s) ∙ any-map (bare_op hide) _ (λ (o : Op). ltb o.core.seq n) (λ o. refl) (in_flight s)
@@ -216,27 +216,27 @@ bare-shown s stats = refl
 bare-shown s enabled = refl
 bare-shown s fetch_pc = refl
 bare-shown s resume_pc = ap shown_number (bare-resume s)
-bare-shown s stage-count = refl
+bare-shown s stage_count = refl
 bare-shown s edges = refl
 bare-shown s entry_stages = refl
 bare-shown s stage_order = refl
-bare-shown s unit-count = refl
-bare-shown s trace-count = ap shown_number (length-of bare_trace s.log.traces)
-bare-shown s timeline-len = ap shown_number (length-of bare_row s.log.rows)
-bare-shown s station-count = ap shown_number (length-of (bare_unit hide) s.units)
-bare-shown s rename-count = refl
-bare-shown s queue-count = ap shown_number (length-of (bare_op hide) s.queue)
-bare-shown s buffer-count = refl
-bare-shown s buffer-capacity = refl
+bare-shown s unit_count = refl
+bare-shown s trace_count = ap shown_number (length-of bare_trace s.log.traces)
+bare-shown s timeline_len = ap shown_number (length-of bare_row s.log.rows)
+bare-shown s station_count = ap shown_number (length-of (bare_unit hide) s.units)
+bare-shown s rename_count = refl
+bare-shown s queue_count = ap shown_number (length-of (bare_op hide) s.queue)
+bare-shown s buffer_count = refl
+bare-shown s buffer_capacity = refl
 bare-shown s (in_flight_before n) = ap shown_flag (bare-before n s)
 bare-shown s (stage i) = ap shown_stage (bare-stage s i)
 bare-shown s (unit i) = ap shown_unit (bare-kind s i)
 bare-shown s (trace i) = ap shown_trace (reads_at bare_trace trace_view (λ t. refl) s.log.traces i)
-bare-shown s (timeline-row i) = ap shown_row (reads_at bare_row row_view (λ r. refl) s.log.rows i)
+bare-shown s (timeline_row i) = ap shown_row (reads_at bare_row row_view (λ r. refl) s.log.rows i)
 bare-shown s (station i) = ap shown_station (reads_at (bare_unit hide) (station_view i) (bare-station i) s.units i)
 bare-shown s (rename i) = refl
 bare-shown s (queued i) = ap shown_slot (reads_at (bare_op hide) slot_view (λ o. refl) s.queue i)
-bare-shown s (buffer-entry i) = refl
+bare-shown s (buffer_entry i) = refl
 
 bare-byte : (s : State) (m : List ℕ) (r c : ℕ) → cell_byte (bare hide s) m r c ≡ cell_byte s m r c
 unfolding views timeline
@@ -255,8 +255,8 @@ bare-byte s m r c =
 
 bare-place : (s : State) (p : Place) → op_at (bare hide s) p ≡ omap (bare_op hide) (op_at s p)
 unfolding requests
-bare-place s (in-queue i) = nth-map (bare_op hide) s.queue i
-bare-place s (in-station i) =
+bare-place s (in_queue i) = nth-map (bare_op hide) s.queue i
+bare-place s (in_station i) =
     ap (λ (x : Option FunctionalUnit). when_some x none station_op) (nth-map (bare_unit hide) s.units i) ∙ go (nth s.units i)
   where
     go
@@ -264,8 +264,8 @@ bare-place s (in-station i) =
         → when_some (omap (bare_unit hide) x) none station_op ≡ omap (bare_op hide) (when_some x none station_op)
     go none = refl
     go (some u) = bare-station_op u
-bare-place s (in-stage i) = bare-stage_op s i
-bare-place s (in-unit i) = ap (omap unit_op) (bare-working s i) ∙ unit-ops (working s i)
+bare-place s (in_stage i) = bare-stage_op s i
+bare-place s (in_unit i) = ap (omap unit_op) (bare-working s i) ∙ unit-ops (working s i)
 bare-place s on_offer = bare-offered s
 
 -- Whether a text is there, where that much stays.
@@ -279,7 +279,7 @@ bare-field : (f : Text → Text) (i : Info) (x : Field) → there (optional_fiel
 unfolding requests
 bare-field f i disassembly = refl
 bare-field f i destination = refl
-bare-field f i fault-note = refl
+bare-field f i fault_note = refl
 bare-field f i (source j) = blank-at f i.sources j
 bare-field f i (write j) = blank-at f i.writes j
 
@@ -304,12 +304,12 @@ bare-there s (slot_text p f) =
         ≡ there (optional_field f) (when_some x none (λ (o : Op). field o.info f))
     go none = refl
     go (some o) = bare-field (hide o.core.seq) o.info f
-bare-there s (trace-detail i) = there-at bare_trace _ _ s.log.traces i
-bare-there s (row-disassembly i) = there-at bare_row _ _ s.log.rows i
-bare-there s (stage-name i) = refl
-bare-there s (unit-name i) = refl
-bare-there s (station-label i) = there-at (bare_unit hide) _ _ s.units i
-bare-there s (rename-register i) = go (nth (claims s) i)
+bare-there s (trace_detail i) = there-at bare_trace _ _ s.log.traces i
+bare-there s (row_disassembly i) = there-at bare_row _ _ s.log.rows i
+bare-there s (stage_name i) = refl
+bare-there s (unit_name i) = refl
+bare-there s (station_label i) = there-at (bare_unit hide) _ _ s.units i
+bare-there s (rename_register i) = go (nth (claims s) i)
   where
     go
         : (x : Option (ℕ × ℕ))

@@ -30,7 +30,7 @@ use Rattle.renaming.specs.Renaming.{Carries, CarriesAt, Demand3, OneToOne, Renam
 -- Alike, and refused alike, where each call gets the engine that the last one left.
 data AlikeRuns : State → State → List Call → List Call → Type 0 where
   both_end : {s t : State} → AlikeRuns s t [] []
-  both-call
+  both_call
       : {s t : State} {c d : Call} {cs ds : List Call} → Alike c d → refusal s c ≡ refusal t d
       → AlikeRuns (after s c) (after t d) cs ds → AlikeRuns s t (c ∷ cs) (d ∷ ds)
 
@@ -38,7 +38,7 @@ alike_runs : (s t : State) (cs ds : List Call) → All2 Alike cs ds → refusals
 unfolding refusals
 alike_runs s t cs ds none2 e = both_end
 alike_runs s t cs ds (more2 {a = c} {b = d} {as' = cs'} {bs = ds'} a as') e =
-    both-call a (cons_head (refusal s c) (refusal t d) (refusals the_engine (after s c) cs') (refusals the_engine (after t d) ds') e)
+    both_call a (cons_head (refusal s c) (refusal t d) (refusals the_engine (after s c) cs') (refusals the_engine (after t d) ds') e)
     (alike_runs (after s c) (after t d) cs' ds' as'
     (cons_tail (refusal s c) (refusal t d) (refusals the_engine (after s c) cs') (refusals the_engine (after t d) ds') e))
 
@@ -99,7 +99,7 @@ record Past
   first_held : Held (is ++ accepted s c) (after s c)
   second_held : Held (js ++ accepted t d) (after t d)
   seen_so : All (λ (n : ℕ). CarriesAt r (nth (is ++ accepted s c) n) (nth (js ++ accepted t d) n)) (seen_by the_engine seen s c)
-  to-come
+  to_come
       : All
       (λ (n : ℕ).
       CarriesAt r (nth ((is ++ accepted s c) ++ operations the_engine (after s c) cs) n)
@@ -123,7 +123,7 @@ module _ (r : Text → Text → Type 0) (one : OneToOne r) where
         first_held = hs';
         second_held = ht';
         seen_so = past';
-        to-come = k';
+        to_come = k';
         seen_alike = seens;
         same_memory = memories;
         recorded = now;
@@ -212,11 +212,11 @@ module _ (r : Text → Text → Type 0) (one : OneToOne r) where
       → recording the_engine seen s m cs ≡ recording the_engine seen t m ds
   unfolding recording
   if-part s t cs ds both_end is js seen m hs ht h u past c = refl
-  if-part s t cs ds (both-call {c = c} {d = d} {cs = cs'} {ds = ds'} a e rest) is js seen m hs ht h u past k =
+  if-part s t cs ds (both_call {c = c} {d = d} {cs = cs'} {ds = ds'} a e rest) is js seen m hs ht h u past k =
       let p = one-call s t c d cs' ds' a e is js seen m hs ht h u past k in
       ap₂ {A = Entry} {B = List Entry} ◌∷◌ p.recorded
       (if-part (after s c) (after t d) cs' ds' rest (is ++ accepted s c) (js ++ accepted t d) (seen_by the_engine seen s c) (memory_after s c m)
-      p.first_held p.second_held p.like p.table p.seen_so p.to-come)
+      p.first_held p.second_held p.like p.table p.seen_so p.to_come)
       ∙ (λ i.
       record_call the_engine (p.seen_alike i) t m d ∷ recording the_engine (p.seen_alike i) (after t d) (p.same_memory i) ds')
 
@@ -234,7 +234,7 @@ learn-distinct ns (some o) d = resolve-distinct ns o.info d
 grows : (s t : State) (cs ds : List Call) → AlikeRuns s t cs ds → Extends s.names (runs s cs).names × Extends t.names (runs t ds).names
 unfolding calls
 grows s t cs ds both_end = (extends-refl s.names, extends-refl t.names)
-grows s t cs ds (both-call {c = c} {d = d} {cs = cs'} {ds = ds'} a e rest) =
+grows s t cs ds (both_call {c = c} {d = d} {cs = cs'} {ds = ds'} a e rest) =
     let g = grows (after s c) (after t d) cs' ds' rest in (
       extends-trans s.names (after s c).names (runs s (c ∷ cs')).names
           (subst (Extends s.names) (sym (after-names s c (alike-left c d a))) (learn-extends s.names (looked_by s c))) g.0,
@@ -247,7 +247,7 @@ stay-distinct
     → Distinct (runs s cs).names × Distinct (runs t ds).names
 unfolding calls
 stay-distinct s t cs ds both_end p q = (p, q)
-stay-distinct s t cs ds (both-call {c = c} {d = d} {cs = cs'} {ds = ds'} a e rest) p q =
+stay-distinct s t cs ds (both_call {c = c} {d = d} {cs = cs'} {ds = ds'} a e rest) p q =
     stay-distinct (after s c) (after t d) cs' ds' rest
     (subst Distinct (sym (after-names s c (alike-left c d a))) (learn-distinct s.names (looked_by s c) p))
     (subst Distinct (sym (after-names t d (alike_right c d a))) (learn-distinct t.names (looked_by t d) q))
@@ -301,7 +301,7 @@ only-if-part
     → All (λ (n : ℕ). CarriesAt (Paired F G) (nth (is ++ operations the_engine s cs) n) (nth (js ++ operations the_engine t ds) n)) (looked_numbers the_engine s cs)
 unfolding calls looked_numbers recording operations
 only-if-part F G s t cs ds both_end u v is js sn sm m l hs ht h e = tt
-only-if-part F G s t cs ds (both-call {c = c} {d = d} {cs = cs'} {ds = ds'} a e rest) u v is js sn sm m l hs ht h k =
+only-if-part F G s t cs ds (both_call {c = c} {d = d} {cs = cs'} {ds = ds'} a e rest) u v is js sn sm m l hs ht h k =
     let g = grows (after s c) (after t d) cs' ds' rest in
     let now : record_call the_engine (seen_by the_engine sn s c) s m c ≡ record_call the_engine (seen_by the_engine sm t d) t l d
     = cons_head (record_call the_engine (seen_by the_engine sn s c) s m c) (record_call the_engine (seen_by the_engine sm t d) t l d) (recording the_engine (seen_by the_engine sn s c) (after s c) (memory_after s c m) cs')

@@ -18,18 +18,18 @@ use Rattle.model.specs.Requests.{
   Field,
   disassembly,
   destination,
-  fault as fault-note,
+  fault as fault_note,
   source,
   write,
   Request,
   status_message,
   slot_text,
-  trace-detail,
-  row-disassembly,
-  stage-name,
-  unit-name,
-  station-label,
-  rename-register,
+  trace_detail,
+  row_disassembly,
+  stage_name,
+  unit_name,
+  station_label,
+  rename_register,
   cell_label,
   operand_register,
 }
@@ -138,19 +138,19 @@ bare w s =
 abbrev pub optional_field : Field → Bool
 optional_field disassembly = false
 optional_field destination = true
-optional_field fault-note = true
+optional_field fault_note = true
 optional_field (source j) = false
 optional_field (write j) = false
 
 abbrev pub optional_text : Request → Bool
 optional_text status_message = true
 optional_text (slot_text p f) = optional_field f
-optional_text (trace-detail i) = false
-optional_text (row-disassembly i) = false
-optional_text (stage-name i) = false
-optional_text (unit-name i) = false
-optional_text (station-label i) = false
-optional_text (rename-register i) = false
+optional_text (trace_detail i) = false
+optional_text (row_disassembly i) = false
+optional_text (stage_name i) = false
+optional_text (unit_name i) = false
+optional_text (station_label i) = false
+optional_text (rename_register i) = false
 optional_text (cell_label n) = false
 optional_text (operand_register i j) = false
 

@@ -65,7 +65,7 @@ module _ (e : Engine) where
 -- "exactly when": ↔.
 -- "a one-to-one renaming of registers": OneToOne. 01: "A renaming need only cover names looked at": Renaming.
 -- "carries the read and write lists of every operation looked at in the first run into those of the operation with the same number in the
---   second": Carries-looked. 01: "An operation's number counts the fetches accepted before it": operations.
+--   second": CarriesLooked. 01: "An operation's number counts the fetches accepted before it": operations.
 -- "plus the numbers each look gave", 01: "A look gives each read's number, then each write's, repeats too": gave of an Entry, looks of the
 --   model.
 -- "The recordings are those of the engine that 1 and 2 define": the_engine.

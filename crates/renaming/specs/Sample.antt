@@ -11,7 +11,7 @@ use Rattle.model.specs.Config.{PipelineShape, pipeline_shape, timing, unit_spec}
 use Rattle.model.specs.Op.{Info, decoded, given, info_of}
 use Rattle.model.specs.Units.{FunctionalUnit}
 use Rattle.model.specs.State.{Stats}
-use Rattle.model.specs.Requests.{disassembly, slot_text, in-queue, status_message, trace-detail}
+use Rattle.model.specs.Requests.{disassembly, slot_text, in_queue, status_message, trace_detail}
 use Rattle.model.specs.Calls.{Call, advance, cell, fetch, halt, overlap, queued, rename, resolve, retire, retry, start, station, text, view}
 use Rattle.renaming.specs.Recording.{Entry}
 
@@ -43,8 +43,8 @@ module _ (x y t : Text) (p : ℕ) where
   sample_calls =
       overlap true ∷ start ∷ next ∷ op 0 Multiply [] (y ∷ []) ∷ start ∷ op 4 Alu [] [] ∷ next
       ∷ op 4 Alu (y ∷ x ∷ []) (bytes "z" ∷ []) ∷ start ∷ next ∷ op 8 Alu [] (x ∷ [])
-      ∷ text (slot_text (in-queue 0) disassembly) (64 + p) ∷ start ∷ next ∷ view (queued 0) ∷ start ∷ next ∷ view (rename 0)
-      ∷ view (station 1) ∷ text (trace-detail 0) (200 + p) ∷ start ∷ next ∷ start ∷ next ∷ start ∷ retry t
+      ∷ text (slot_text (in_queue 0) disassembly) (64 + p) ∷ start ∷ next ∷ view (queued 0) ∷ start ∷ next ∷ view (rename 0)
+      ∷ view (station 1) ∷ text (trace_detail 0) (200 + p) ∷ start ∷ next ∷ start ∷ next ∷ start ∷ retry t
       ∷ text status_message (64 + p) ∷ next ∷ start ∷ retire ∷ resolve 4 ∷ next ∷ start ∷ next ∷ cell 0 2 800 ∷ halt ∷ []
 
 -- ── The numbers of a recording ──────────────────────────────────────────────

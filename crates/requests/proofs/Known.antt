@@ -105,10 +105,10 @@ module _ {us : Units} (ok : UnitsOk us) (g : Legend) (d : Slot) {i : ℕ} (h : i
   abbrev unit : Slot
   unit = get_or us.items i d
 
-  pub station-label : (ks : List UnitSpec) {name : Text} → name ≡ spec_name ks unit.spec
+  pub station_label : (ks : List UnitSpec) {name : Text} → name ≡ spec_name ks unit.spec
       → some (name ++ decimal unit.instance) ≡ omap (station_text ks) (nth (view_units g us) i)
   unfolding station_text view_unit
-  station-label ks e = ap (λ t. some (t ++ decimal unit.instance)) e ∙ sym (omap-some (station_text ks) (units-nth ok g d h))
+  station_label ks e = ap (λ t. some (t ++ decimal unit.instance)) e ∙ sym (omap-some (station_text ks) (units-nth ok g d h))
 
   pub operand-there : (ns : List Text) (n j : ℕ) → All (UnitKnows n) (slots us) → j < 2
       → nth (map (name_of ns) (read unit.operands)) j ≡ when_some (nth (view_units g us) i) none (operand-of ns n j)

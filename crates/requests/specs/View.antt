@@ -3,10 +3,10 @@ use Rattle.std.specs.Prelude.{ℕ, [], take}
 use Rattle.std.proofs.Math.Option.{none}
 use Rattle.model.specs.Requests.{
   Place as OpPlace,
-  in-queue,
-  in-station,
-  in-stage,
-  in-unit,
+  in_queue,
+  in_station,
+  in_stage,
+  in_unit,
   on_offer,
   Field as OpField,
   disassembly,
@@ -40,10 +40,10 @@ wait_frame ds ts t m n =
     }
 
 unfoldable pub view_place : Place → OpPlace
-view_place (place.Queue i) = in-queue i
-view_place (place.Station i) = in-station i
-view_place (place.Stage i) = in-stage i
-view_place (place.Kind i) = in-unit i
+view_place (place.Queue i) = in_queue i
+view_place (place.Station i) = in_station i
+view_place (place.Stage i) = in_stage i
+view_place (place.Kind i) = in_unit i
 view_place place.Offer = on_offer
 
 unfoldable pub view_field : Field → OpField

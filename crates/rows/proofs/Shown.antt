@@ -17,7 +17,7 @@ use Rattle.model.specs.Config.{PipelineShape, UnitSpec, at_least_one, capacities
 use Rattle.model.specs.Timeline.{Row, cell_at, cell_place, timeline}
 use Rattle.model.specs.State.{State, engine, new}
 use Rattle.model.specs.Views.{cell_byte, cell_there, cell_view, row_view, views}
-use Rattle.model.specs.Requests.{Request, requests, row-disassembly, short_for, text_at}
+use Rattle.model.specs.Requests.{Request, requests, row_disassembly, short_for, text_at}
 use Rattle.model.specs.Calls.{
   Made,
   answer,
@@ -159,7 +159,7 @@ timeline-is lent s m xs x sound =
     record {
       len = ap shown_number (all-length (RowShown h m) s.log.rows xs x.shown);
       row = λ i. ap shown_row (rows-viewed s m h s.log.rows xs i x.shown);
-      row_text = λ i room l. text-answered s m (row-disassembly i) room (rust_row_text xs i) (rows_text s m h s.log.rows xs i x.shown) l;
+      row_text = λ i room l. text-answered s m (row_disassembly i) room (rust_row_text xs i) (rows_text s m h s.log.rows xs i x.shown) l;
       cell_view =
           λ i c. (
             omap cell_view (cell_byte s m i c),

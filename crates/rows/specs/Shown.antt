@@ -2,19 +2,19 @@
 --
 -- Demand 2's other parts hold by definition of the model: its State s has the fields of the Rust's `ScoreboardPipeline`, and each call sets them
 -- as the Rust's function does. Only the timeline is kept in another form. Field by field:
---   shape           s .machine: `timing` is times, `instruction_bytes` is instruction_bytes, `history` is history, of `stages` only the queue's
+--   shape           s.machine: `timing` is times, `instruction_bytes` is instruction_bytes, `history` is history, of `stages` only the queue's
 --                   depth is read, `units` are the specs; bypass, predict, resolve, mode and speculative_fetch are read by no function
---   specs, capacity s .machine .specs: a kind with the capacity that is noted for it
---   units           s .units: spec, class, redirects, phase, sources, destinations and pending under these names; `op`, an Option, is busy and op;
+--   specs, capacity s.machine.specs: a kind with the capacity that is noted for it
+--   units           s.units: spec, class, redirects, phase, sources, destinations and pending under these names; `op`, an Option, is busy and op;
 --                   `label` is made from the kind's name and `instance` (Requests, station_text)
---   queue           s .queue
---   registers       s .names and s.producer; `ids` is a search through the names
---   enabled, halted, faulted, fetch_pc, next_row, next_seq    s .front, under these names
---   stats, traces, status                                     s .log, under these names; a trace's `detail` is kept as its words (Traces, render)
---   writing         s .offer .writing
---   branch_pending, system_pending                            s .marks .branch and s.marks.system
+--   queue           s.queue
+--   registers       s.names and s.producer; `ids` is a search through the names
+--   enabled, halted, faulted, fetch_pc, next_row, next_seq    s.front, under these names
+--   stats, traces, status                                     s.log, under these names; a trace's `detail` is kept as its words (Traces, render)
+--   writing         s.offer.writing
+--   branch_pending, system_pending                            s.marks.branch and s.marks.system
 --   timeline        `rows` are s.log.rows with the lent cell memory, `capacity` is s.machine.history: the theorem below
--- Ours, and in no field of the Rust: s.offer.retired, s.front.in-cycle, s.front.invited.
+-- Ours, and in no field of the Rust: s.offer.retired, s.front.in_cycle, s.front.invited.
 use Rattle.std.specs.Prelude.{ℕ, suc, ◌+◌, ◌*◌, ◌/◌, ◌%◌, ◌≤◌, ◌≡◌, false, cond, List, [], ◌∷◌, eqb, ltb, length}
 use Rattle.std.proofs.Math.Option.{Option, none, some}
 use Rattle.laws.specs.Optional.{omap}
@@ -23,12 +23,12 @@ use Rattle.laws.specs.Texts.{Text}
 use Rattle.model.specs.Config.{PipelineShape}
 use Rattle.model.specs.State.{State}
 use Rattle.model.specs.Views.{RowView, CellView}
-use Rattle.model.specs.Requests.{row-disassembly, cell_label, short_for}
+use Rattle.model.specs.Requests.{row_disassembly, cell_label, short_for}
 use Rattle.model.specs.Calls.{
   Call,
   view,
-  timeline-len,
-  timeline-row,
+  timeline_len,
+  timeline_row,
   cell,
   text,
   made,
@@ -95,12 +95,12 @@ memory_byte history rust lent p = cond (ltb p (history * 200)) (some (slot_byte 
 -- Of an engine s, its cell memory m, the memory `lent` to making, and the Rust's rows.
 pub record TimelineShown (lent : List ℕ) (s : State) (m : List ℕ) (rust : List RustRow) : Type 0 where
   -- timeline_len
-  pub len : answer s m (view timeline-len) ≡ shown_number (length rust)
+  pub len : answer s m (view timeline_len) ≡ shown_number (length rust)
   -- timeline_row, and its disassembly where the buffer takes it
-  pub row : (i : ℕ) → answer s m (view (timeline-row i)) ≡ shown_row (omap rust_row_view (nth rust i))
+  pub row : (i : ℕ) → answer s m (view (timeline_row i)) ≡ shown_row (omap rust_row_view (nth rust i))
   pub row_text
       : (i room : ℕ) → short_for room (rust_row_text rust i) ≡ false
-      → answer s m (text (row-disassembly i) room) ≡ shown_text (rust_row_text rust i)
+      → answer s m (text (row_disassembly i) room) ≡ shown_text (rust_row_text rust i)
   -- timeline_cell
   pub cell_view
       : (i c : ℕ) → (v : Option CellView) × (answer s m (cell i c (length m)) ≡ shown_cell v) × Both (CellShown s m) v (rust_cell rust i c)

@@ -26,7 +26,7 @@ use Rattle.model.specs.Views.{
   StationView,
   claims,
 }
-use Rattle.model.specs.Requests.{in-queue, in-station, in-stage, in-unit, on_offer, op_at, Field, disassembly, destination, fault, source, write, field, Request, status_message, trace-detail, row-disassembly, stage-name, unit-name, station-label, rename-register, cell_label, operand_register, text_at}
+use Rattle.model.specs.Requests.{in_queue, in_station, in_stage, in_unit, on_offer, op_at, Field, disassembly, destination, fault, source, write, field, Request, status_message, trace_detail, row_disassembly, stage_name, unit_name, station_label, rename_register, cell_label, operand_register, text_at}
 use Rattle.model.specs.Calls as calls
 use Rattle.model.specs.Calls.{
   Answer,
@@ -191,25 +191,25 @@ offer_texts (some o) l =
     (up_from (λ (j : ℕ). maybe text_numbers (field o.info (write j))) 0 5 l))
 
 unfoldable pub stage_all : State → ℕ → List ℕ → List ℕ
-stage_all s i l = ask s (calls.stage i) (slot_texts (op_at s (in-stage i)) l)
+stage_all s i l = ask s (calls.stage i) (slot_texts (op_at s (in_stage i)) l)
 
 unfoldable pub unit_all : State → ℕ → List ℕ → List ℕ
-unit_all s i l = ask s (calls.unit i) (read s (unit-name i) (slot_texts (op_at s (in-unit i)) l))
+unit_all s i l = ask s (calls.unit i) (read s (unit_name i) (slot_texts (op_at s (in_unit i)) l))
 
 unfoldable pub station_all : State → ℕ → List ℕ → List ℕ
 station_all s i l =
     ask s (calls.station i)
-    (read s (station-label i)
-    (read s (operand_register i 0) (read s (operand_register i 1) (slot_texts (op_at s (in-station i)) l))))
+    (read s (station_label i)
+    (read s (operand_register i 0) (read s (operand_register i 1) (slot_texts (op_at s (in_station i)) l))))
 
 unfoldable pub trace_all : State → ℕ → List ℕ → List ℕ
-trace_all s i l = ask s (calls.trace i) (read s (trace-detail i) l)
+trace_all s i l = ask s (calls.trace i) (read s (trace_detail i) l)
 
 unfoldable pub rename_all : State → ℕ → List ℕ → List ℕ
-rename_all s i l = ask s (calls.rename i) (read s (rename-register i) l)
+rename_all s i l = ask s (calls.rename i) (read s (rename_register i) l)
 
 unfoldable pub queued_all : State → ℕ → List ℕ → List ℕ
-queued_all s i l = ask s (calls.queued i) (slot_texts (op_at s (in-queue i)) l)
+queued_all s i l = ask s (calls.queued i) (slot_texts (op_at s (in_queue i)) l)
 
 -- A row's cell c, read from the row's own bytes: the byte that a cell view reads (proofs/Cells).
 unfoldable pub cell_in : Row → List ℕ → ℕ → Option ℕ
@@ -224,7 +224,7 @@ row_cells s m (some w) l = cells_of w (drop (slot s.machine.history w.id) m) l
 
 -- A row and all its cells, from the cell memory m.
 unfoldable pub row_all : State → List ℕ → ℕ → List ℕ → List ℕ
-row_all s m i l = ask s (calls.timeline-row i) (read s (row-disassembly i) (row_cells s m (nth s.log.rows i) l))
+row_all s m i l = ask s (calls.timeline_row i) (read s (row_disassembly i) (row_cells s m (nth s.log.rows i) l))
 
 unfoldable pub ask_before : State → ℕ → List ℕ → List ℕ
 ask_before s n l = ask s (calls.in_flight_before n) l
@@ -241,25 +241,25 @@ everything_shown s m l =
     each (ask s) (calls.status ∷ calls.enabled ∷ calls.stats ∷ calls.fetch_pc ∷ calls.resume_pc ∷ [])
     (read s status_message
     (up_from (stage_all s) 0 6
-    (ask s calls.unit-count
+    (ask s calls.unit_count
     (up_from (unit_all s) 0 (suc (length s.machine.specs))
-    (ask s calls.station-count
+    (ask s calls.station_count
     (up_from (station_all s) 0 (suc (length s.units))
-    (ask s calls.trace-count
+    (ask s calls.trace_count
     (up_from (trace_all s) 0 (suc (length s.log.traces))
-    (ask s calls.rename-count
+    (ask s calls.rename_count
     (up_from (rename_all s) 0 (suc (length (claims s)))
-    (ask s calls.queue-count
+    (ask s calls.queue_count
     (up_from (queued_all s) 0 (suc (length s.queue))
     (offer_texts (op_at s on_offer)
-    (ask s calls.timeline-len (up_from (row_all s m) 0 (suc (length s.log.rows)) (before_all s l))))))))))))))))
+    (ask s calls.timeline_len (up_from (row_all s m) 0 (suc (length s.log.rows)) (before_all s l))))))))))))))))
 
 -- What no call changes.
 unfoldable pub fixed_shown : State → List ℕ → List ℕ
 fixed_shown s l =
     each (ask s)
-    (calls.stage-count ∷ calls.edges ∷ calls.entry_stages ∷ calls.stage_order ∷ calls.buffer-count ∷ calls.buffer-capacity ∷ calls.buffer-entry 0 ∷ [])
-    (up_from (λ (i : ℕ). read s (stage-name i)) 0 6 (up_from (λ (n : ℕ). read s (cell_label n)) 0 (9 + length s.machine.specs) l))
+    (calls.stage_count ∷ calls.edges ∷ calls.entry_stages ∷ calls.stage_order ∷ calls.buffer_count ∷ calls.buffer_capacity ∷ calls.buffer_entry 0 ∷ [])
+    (up_from (λ (i : ℕ). read s (stage_name i)) 0 6 (up_from (λ (n : ℕ). read s (cell_label n)) 0 (9 + length s.machine.specs) l))
 
 -- All of these unfold where a line says `unfolding digest`.
 unfoldable pub digest : Unit {0}

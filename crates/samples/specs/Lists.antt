@@ -81,7 +81,7 @@ numbers_of c =
 unfoldable pub agrees : Case → Bool
 agrees c = same (numbers_of c) c.numbers
 
--- All of these unfold where a line says `unfolding lists-of-calls`.
+-- All of these unfold where a line says `unfolding lists_of_calls`.
 unfoldable pub lists_of_calls : Unit {0}
 unfolding answered idled all_shown trail made_trail numbers_of agrees
 lists_of_calls = tt

@@ -98,7 +98,7 @@ module _ (k : ℕ) where
     units-once =
         total-once unit-hit (λ u. unit-most u.busy (eqb k u.op.core.row)) s.units
         (λ i j u v a b x y.
-        h.number-distinct i j u v (busy-holds s i u a (unit-told u x).0) (busy-holds s j v b (unit-told v y).0)
+        h.number_distinct i j u v (busy-holds s i u a (unit-told u x).0) (busy-holds s j v b (unit-told v y).0)
         (unit-number i u a x ∙ sym (unit-number j v b y)))
       where
         unit-most : (b c : Bool) → cond b (cond {A = ℕ} c 1 0) 0 ≤ 1
@@ -116,7 +116,7 @@ module _ (k : ℕ) where
         go (inl l) =
             let w = total-some unit-hit s.units l in
             let number = unit-number w.0 w.1 w.2 w.3 in
-            let before = h.before-queue w.0 w.1 (busy-holds s w.0 w.1 w.2 (unit-told w.1 w.3).0) in
+            let before = h.before_queue w.0 w.1 (busy-holds s w.0 w.1 w.2 (unit-told w.1 w.3).0) in
             omega (
               arith,
               hits-split s,

@@ -42,7 +42,7 @@ rows-stay-short input cells =
     record {
       between_turns = after;
       at_the_end = subst RunShort (sym (as-run input cells)) (after (fuel_for input));
-      in-a-turn = λ k e rest n q.
+      in_a_turn = λ k e rest n q.
           let h = subst (Along Short input) q (along Short short-keeps input cells k) in
           rows_short (cycle e).engine (short-cycle input e rest n h.0 h.1);
     }

@@ -16,7 +16,7 @@ pub record RowShort (r : Row) : Type 0 where
 abbrev pub RowsShort : Lent → Type 0
 RowsShort e = All RowShort e.engine.log.rows
 
--- A run that is not made has no rows. One whose line was refused shows none: see `in-a-turn`.
+-- A run that is not made has no rows. One whose line was refused shows none: see `in_a_turn`.
 abbrev pub RunShort : Run → Type 0
 RunShort (not_made r m) = Unit {0}
 RunShort (line_refused n r m) = Unit {0}
@@ -31,7 +31,7 @@ pub record Spans (input : Text) (cells : List ℕ) : Type 0 where
   pub at_the_end : RunShort (forecast_of input cells)
   -- In the turn after k, also where its line is refused: after the cycle, which adds a cell for each operation in flight. (A start and a
   -- retirement add none; a fetch adds a row of one cell.)
-  pub in-a-turn
+  pub in_a_turn
       : (k : ℕ) (e : Lent) (rest : Text) (n : ℕ) → forecast_run k (begun input cells) ≡ going e rest n → RowsShort (cycle e)
 
 -- ── A long row ──────────────────────────────────────────────────────────────

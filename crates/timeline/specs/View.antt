@@ -142,7 +142,7 @@ view_row v =
       atomic = v.atomic;
     }
 
--- The view timeline-row, as the model answers it.
+-- The view timeline_row, as the model answers it.
 unfoldable pub row_answer : MaybeRow → Answer
 row_answer (maybe.Some v) = shown_row (some (view_row v))
 row_answer maybe.Nothing = shown_row none

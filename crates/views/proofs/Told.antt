@@ -13,17 +13,17 @@ use Rattle.model.specs.Write.{offered_op}
 use Rattle.model.specs.Views.{oldest_in, stage_ops, stage_op, working}
 use Rattle.model.specs.Requests.{
   Place,
-  in-queue,
-  in-station,
-  in-stage,
-  in-unit,
+  in_queue,
+  in_station,
+  in_stage,
+  in_unit,
   on_offer,
   op_at,
   Field,
   field,
   Request,
   slot_text,
-  stage-name,
+  stage_name,
   stage_names,
   text_at,
   short_for,
@@ -54,9 +54,9 @@ module _ {lent out : List ℕ} {r : Written} where
 
   -- The name of a stage is that of any engine.
   pub told-stage : (i : ℕ) → Wrote (nth stage_names i) lent out r
-      → (r ≡ written (length lent) (nth stage_names i)) × ((s : State) → out ≡ buffer_after s (stage-name i) lent)
+      → (r ≡ written (length lent) (nth stage_names i)) × ((s : State) → out ≡ buffer_after s (stage_name i) lent)
   unfolding text_at
-  told-stage i w = (w.is, λ s. (told s (stage-name i) w).1)
+  told-stage i w = (w.is, λ s. (told s (stage_name i) w).1)
 
 -- ── The operation at a place ────────────────────────────────────────────────
 
@@ -67,10 +67,10 @@ module _ (f : Frame) (b : Board) where
 
   place-parts : (p : Place) → op_at parts p ≡ op_at (view_board f b) p
   unfolding op_at view_board stage_op stage_ops oldest_in working offered_op
-  place-parts (in-queue i) = refl
-  place-parts (in-station i) = refl
-  place-parts (in-stage i) = refl
-  place-parts (in-unit i) = refl
+  place-parts (in_queue i) = refl
+  place-parts (in_station i) = refl
+  place-parts (in_stage i) = refl
+  place-parts (in_unit i) = refl
   place-parts on_offer = refl
 
   pub slot-told : (p : Place) (a : Field) {o : Option Op} {lent out : List ℕ} {r : Written} → o ≡ op_at parts p

@@ -6,12 +6,12 @@ ghost use Rattle.model.specs.State.{State};
 ghost use Rattle.model.specs.Requests.{
   status_message,
   slot_text,
-  trace-detail,
-  row-disassembly,
-  stage-name,
-  unit-name,
-  station-label,
-  rename-register,
+  trace_detail,
+  row_disassembly,
+  stage_name,
+  unit_name,
+  station_label,
+  rename_register,
   cell_label,
   operand_register,
   stage_names,
@@ -56,8 +56,8 @@ pub fn slot_text(engine: ScoreboardPipeline, place: Place, field: Field, out: &m
 // PipelineTraceView::detail
 pub fn trace_detail(engine: ScoreboardPipeline, index: usize, out: &mut [u8]) -> Written
     requires { Valid engine }
-    ensures answer { result ≡ written (length out.old) (text_at (view_engine engine) (trace-detail index)) }
-    ensures buffer { out.new ≡ buffer_after (view_engine engine) (trace-detail index) out.old }
+    ensures answer { result ≡ written (length out.old) (text_at (view_engine engine) (trace_detail index)) }
+    ensures buffer { out.new ≡ buffer_after (view_engine engine) (trace_detail index) out.old }
 {
     let board = engine.board;
     let log = board.log;
@@ -71,8 +71,8 @@ pub fn trace_detail(engine: ScoreboardPipeline, index: usize, out: &mut [u8]) ->
 // PipelineTimelineRow::disassembly
 pub fn row_disassembly(engine: ScoreboardPipeline, index: usize, out: &mut [u8]) -> Written
     requires { Valid engine }
-    ensures answer { result ≡ written (length out.old) (text_at (view_engine engine) (row-disassembly index)) }
-    ensures buffer { out.new ≡ buffer_after (view_engine engine) (row-disassembly index) out.old }
+    ensures answer { result ≡ written (length out.old) (text_at (view_engine engine) (row_disassembly index)) }
+    ensures buffer { out.new ≡ buffer_after (view_engine engine) (row_disassembly index) out.old }
 {
     let window = engine.window;
     let rows = engine.rows;
@@ -83,7 +83,7 @@ pub fn row_disassembly(engine: ScoreboardPipeline, index: usize, out: &mut [u8])
 // PipelineStageView::name, of any engine
 pub fn stage_name(index: usize, out: &mut [u8]) -> Written
     ensures answer { result ≡ written (length out.old) (nth stage_names index) }
-    ensures buffer { (s : State) → out.new ≡ buffer_after s (stage-name index) out.old }
+    ensures buffer { (s : State) → out.new ≡ buffer_after s (stage_name index) out.old }
 {
     match index {
         0 => write_text(b"IF", out),
@@ -98,8 +98,8 @@ pub fn stage_name(index: usize, out: &mut [u8]) -> Written
 // PipelineUnitView::name
 pub fn unit_name(engine: ScoreboardPipeline, index: usize, out: &mut [u8]) -> Written
     requires { Valid engine }
-    ensures answer { result ≡ written (length out.old) (text_at (view_engine engine) (unit-name index)) }
-    ensures buffer { out.new ≡ buffer_after (view_engine engine) (unit-name index) out.old }
+    ensures answer { result ≡ written (length out.old) (text_at (view_engine engine) (unit_name index)) }
+    ensures buffer { out.new ≡ buffer_after (view_engine engine) (unit_name index) out.old }
 {
     let machine = engine.machine;
     words::write_spec_name(machine, index, out)
@@ -108,8 +108,8 @@ pub fn unit_name(engine: ScoreboardPipeline, index: usize, out: &mut [u8]) -> Wr
 // PipelineStationView::name: the kind's name and the number within the kind
 pub fn station_label(engine: ScoreboardPipeline, index: usize, out: &mut [u8]) -> Written
     requires { Valid engine }
-    ensures answer { result ≡ written (length out.old) (text_at (view_engine engine) (station-label index)) }
-    ensures buffer { out.new ≡ buffer_after (view_engine engine) (station-label index) out.old }
+    ensures answer { result ≡ written (length out.old) (text_at (view_engine engine) (station_label index)) }
+    ensures buffer { out.new ≡ buffer_after (view_engine engine) (station_label index) out.old }
 {
     let board = engine.board;
     let units = board.units;
@@ -120,8 +120,8 @@ pub fn station_label(engine: ScoreboardPipeline, index: usize, out: &mut [u8]) -
 // PipelineRenameView::register
 pub fn rename_register(engine: ScoreboardPipeline, index: usize, out: &mut [u8]) -> Written
     requires { Valid engine }
-    ensures answer { result ≡ written (length out.old) (text_at (view_engine engine) (rename-register index)) }
-    ensures buffer { out.new ≡ buffer_after (view_engine engine) (rename-register index) out.old }
+    ensures answer { result ≡ written (length out.old) (text_at (view_engine engine) (rename_register index)) }
+    ensures buffer { out.new ≡ buffer_after (view_engine engine) (rename_register index) out.old }
 {
     let board = engine.board;
     let claims = board.claims;

@@ -4,7 +4,7 @@ use Rattle.std.proofs.Math.Option.{none, some}
 use Rattle.laws.specs.Texts.{bytes}
 use Rattle.capability.specs.declared.PipelineInstructionClass.TheVariants.{Alu, Multiply, Load, Store, FloatingPoint}
 use Rattle.model.specs.Config.{timing, unit_spec, PipelineShape, pipeline_shape}
-use Rattle.model.specs.Requests.{in-queue, source, slot_text, trace-detail, stage-name, rename-register, cell_label, operand_register}
+use Rattle.model.specs.Requests.{in_queue, source, slot_text, trace_detail, stage_name, rename_register, cell_label, operand_register}
 use Rattle.model.specs.Calls.{
   stats,
   fetch_pc,
@@ -48,14 +48,14 @@ steps =
     ∷ shown (fetch (op 9 15 FloatingPoint false false (bytes "zzzzzzzzzzzzzzzzzzzzzzzzzzzzzzzzzzzzzzzzzzzzzzzzzzzzzzzzzzzzzzzzz")
     (some []) (some (bytes "sixteen-bytes-ok")) [] [] 215) 200) ∷ shown (advance none 200)
     ∷ shown (fetch (op 36 5 Alu false true (bytes "nop x5") none none (bytes "x1" ∷ bytes "x7" ∷ bytes "x7" ∷ []) [] 579) 200)
-    ∷ shown start ∷ shown (text (trace-detail 0) 0) ∷ shown (cell 2 0 200) ∷ shown (advance none 200)
-    ∷ shown start ∷ shown (advance none 200) ∷ shown retire ∷ shown (text (slot_text (in-queue 0) (source 2)) 2)
+    ∷ shown start ∷ shown (text (trace_detail 0) 0) ∷ shown (cell 2 0 200) ∷ shown (advance none 200)
+    ∷ shown start ∷ shown (advance none 200) ∷ shown retire ∷ shown (text (slot_text (in_queue 0) (source 2)) 2)
     ∷ shown start ∷ shown (advance none 200) ∷ shown (capacity 2 2)
     ∷ shown start
     ∷ shown (fetch (op 41 11 Alu false false (bytes "div                                                             ") none (some
     (bytes "x1")) [] (bytes "x6" ∷ bytes "sixteen-bytes-ok" ∷ bytes "x2" ∷ bytes "x2" ∷ bytes "x7" ∷ []) 248) 200) ∷ shown (view
     stats) ∷ shown (capacity 2 3) ∷ shown (advance none 200)
-    ∷ shown start ∷ shown (advance none 200) ∷ shown (text (rename-register 0) 200)
+    ∷ shown start ∷ shown (advance none 200) ∷ shown (text (rename_register 0) 200)
     ∷ shown start
     ∷ shown start ∷ shown (advance (some 0) 200)
     ∷ shown (fetch (op 0 0 Alu false false (bytes "mul x6") none (some (bytes "x5")) (bytes "x1" ∷ []) (bytes "x5" ∷ []) 176) 200)
@@ -67,7 +67,7 @@ steps =
     367) 200) ∷ shown (advance none 200)
     ∷ shown start ∷ shown (resolve 9) ∷ shown retire ∷ shown halt
     ∷ shown (fetch (op 1 5 Alu false false (bytes "   ") none (some (bytes "x5")) (bytes "x2" ∷ []) (bytes "x2" ∷ bytes "x2" ∷
-    bytes "x0" ∷ bytes "x1" ∷ bytes "x1" ∷ []) 961) 200) ∷ shown (advance none 200) ∷ shown (text (stage-name 2) 2) ∷ shown (reset
+    bytes "x0" ∷ bytes "x1" ∷ bytes "x1" ∷ []) 961) 200) ∷ shown (advance none 200) ∷ shown (text (stage_name 2) 2) ∷ shown (reset
     120 200)
     ∷ shown start ∷ shown (capacity 2 65) ∷ shown (retry (bytes "waiting")) ∷ shown (advance none 200)
     ∷ shown (fetch (op 120 8 Alu false false (bytes "nop x8") none (some (bytes "x5")) [] (bytes "x5" ∷ []) 425) 200) ∷ shown

@@ -4,7 +4,7 @@ use Rattle.std.proofs.Math.Option.{none, some}
 use Rattle.laws.specs.Texts.{bytes}
 use Rattle.capability.specs.declared.PipelineInstructionClass.TheVariants.{Alu, Divide, Load, Store, System, FloatingPoint, Unknown}
 use Rattle.model.specs.Config.{timing, unit_spec, PipelineShape, pipeline_shape}
-use Rattle.model.specs.Requests.{in-unit, source, slot_text}
+use Rattle.model.specs.Requests.{in_unit, source, slot_text}
 use Rattle.model.specs.Calls.{start, retire, retry, advance, fetch, capacity, overlap, halt, redirect, cell, text}
 use Rattle.samples.specs.Lists.{Step, shown, rest, Case, case_of, op}
 use Rattle.capability.specs.declared.PipelineStageRole.TheVariants as role
@@ -74,7 +74,7 @@ steps =
     ∷ shown (fetch (op 22 14 System false false (bytes "ecall x6") none (some (bytes "shown")) [] (bytes "x0" ∷ []) 720) 400)
     ∷ shown start ∷ shown (advance none 400)
     ∷ shown start ∷ shown (advance none 400)
-    ∷ shown start ∷ shown (advance none 400) ∷ shown (text (slot_text (in-unit 2) (source 3)) 0)
+    ∷ shown start ∷ shown (advance none 400) ∷ shown (text (slot_text (in_unit 2) (source 3)) 0)
     ∷ shown start ∷ shown (advance none 400)
     ∷ shown start ∷ shown retire ∷ shown (advance none 400)
     ∷ shown start ∷ shown (advance none 400)

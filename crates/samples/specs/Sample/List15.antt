@@ -5,23 +5,23 @@ use Rattle.laws.specs.Texts.{bytes}
 use Rattle.capability.specs.declared.PipelineInstructionClass.TheVariants.{Multiply, Divide, Load, Store, System, FloatingPoint, Unknown}
 use Rattle.model.specs.Config.{timing, unit_spec, PipelineShape, pipeline_shape}
 use Rattle.model.specs.Requests.{
-  in-station,
-  in-unit,
+  in_station,
+  in_unit,
   disassembly,
   write,
   status_message,
   slot_text,
-  stage-name,
-  unit-name,
-  station-label,
-  rename-register,
+  stage_name,
+  unit_name,
+  station_label,
+  rename_register,
   operand_register,
 }
 use Rattle.model.specs.Calls.{
-  unit-count,
-  timeline-len,
-  station-count,
-  buffer-capacity,
+  unit_count,
+  timeline_len,
+  station_count,
+  buffer_capacity,
   in_flight_before,
   stage,
   unit,
@@ -52,12 +52,12 @@ abbrev steps : List Step
 steps =
     shown (overlap true)
     ∷ shown (fetch (op 0 18446744073709551614 Multiply false true (bytes "fadd x0") (some (bytes "page fault")) none (bytes "x1" ∷ []
-    ∷ bytes "x0" ∷ []) (bytes "zzzzzzzzzzzzzzzzz" ∷ []) 913) 0) ∷ shown (view timeline-len) ∷ shown (reset 96 200) ∷ shown retire
-    ∷ shown start ∷ shown (text (rename-register 0) 200)
+    ∷ bytes "x0" ∷ []) (bytes "zzzzzzzzzzzzzzzzz" ∷ []) 913) 0) ∷ shown (view timeline_len) ∷ shown (reset 96 200) ∷ shown retire
+    ∷ shown start ∷ shown (text (rename_register 0) 200)
     ∷ shown start ∷ shown (advance none 200)
     ∷ shown (fetch (op 96 1 Unknown false false (bytes "nop x8") none (some (bytes "a.0")) (bytes "x2" ∷ bytes " x 1" ∷ bytes "x1" ∷
     []) (bytes "a.0" ∷ bytes "x1" ∷ []) 818) 200)
-    ∷ shown start ∷ shown (advance none 200) ∷ shown (text (stage-name 1) 1) ∷ shown (resolve 16) ∷ shown (view station-count) ∷
+    ∷ shown start ∷ shown (advance none 200) ∷ shown (text (stage_name 1) 1) ∷ shown (resolve 16) ∷ shown (view station_count) ∷
     shown (cell 0 2 200) ∷ shown (advance none 200)
     ∷ shown (fetch (op 94 11 Load false false (bytes "lw x9") none (some (97 ∷ 98 ∷ 127 ∷ [])) (bytes "b.0" ∷ bytes "rflags" ∷
     bytes "x0" ∷ bytes "x2" ∷ bytes "sixteen-bytes-ok" ∷ bytes "x1" ∷ bytes "x1" ∷ bytes "x2" ∷ []) (bytes "x0" ∷ bytes "x1" ∷
@@ -66,11 +66,11 @@ steps =
     (bytes "x2" ∷ []) 72) 200)
     ∷ shown start ∷ shown (advance none 200)
     ∷ shown (fetch (op 92 4 Load false false (bytes "add x1") none (some (bytes "sixteen-bytes-ok")) (bytes "x1" ∷ bytes "x1" ∷
-    bytes "x2" ∷ bytes "x2" ∷ []) (bytes "x2" ∷ bytes "x1" ∷ []) 832) 200) ∷ shown (text (stage-name 0) 2)
+    bytes "x2" ∷ bytes "x2" ∷ []) (bytes "x2" ∷ bytes "x1" ∷ []) 832) 200) ∷ shown (text (stage_name 0) 2)
     ∷ shown start ∷ shown (advance none 200)
-    ∷ shown start ∷ shown (text (station-label 3) 0) ∷ shown (advance none 200)
+    ∷ shown start ∷ shown (text (station_label 3) 0) ∷ shown (advance none 200)
     ∷ shown start ∷ shown (capacity 0 1) ∷ shown retire ∷ shown (view (rename 1)) ∷ shown (reset 232 200) ∷ shown (cell 0 0 200) ∷
-    shown (text (station-label 1) 4)
+    shown (text (station_label 1) 4)
     ∷ shown start ∷ shown (advance none 200)
     ∷ shown (fetch (op 232 7 Load false false (bytes "add x0") none (some (bytes "x0")) (bytes "x1" ∷ bytes "x2" ∷ bytes "x0" ∷
     bytes "x2" ∷ bytes "x2" ∷ bytes "x2" ∷ bytes "x1" ∷ bytes "x1" ∷ bytes "sixteen-bytes-ok" ∷ []) (bytes "x0" ∷ bytes "x2" ∷ [])
@@ -85,9 +85,9 @@ steps =
     ∷ shown start ∷ shown (text status_message 0) ∷ shown (advance none 200)
     ∷ shown start ∷ shown halt ∷ shown (advance none 200)
     ∷ shown start ∷ shown (advance none 200)
-    ∷ shown start ∷ shown (view buffer-capacity) ∷ shown halt ∷ shown (advance none 200) ∷ shown (cell 2 18446744073709551615 58)
+    ∷ shown start ∷ shown (view buffer_capacity) ∷ shown halt ∷ shown (advance none 200) ∷ shown (cell 2 18446744073709551615 58)
     ∷ shown start ∷ shown (view (rename 0)) ∷ shown (advance (some 5214636875268669323) 200) ∷ shown (view (unit 2))
-    ∷ shown start ∷ shown (advance (some 8) 200) ∷ shown (text (rename-register 0) 0)
+    ∷ shown start ∷ shown (advance (some 8) 200) ∷ shown (text (rename_register 0) 0)
     ∷ shown (fetch (op 228 9223372036854775808 Load false false (bytes "lw x1") none (some (bytes "sixteen-bytes-ok")) (bytes "x1" ∷
     bytes "x1" ∷ bytes " x 1" ∷ bytes "x0" ∷ bytes "x0" ∷ bytes "x1" ∷ bytes "rflags" ∷ bytes "x1" ∷ []) (bytes "x1" ∷ (31 ∷ []) ∷
     []) 206) 0) ∷ shown (redirect 208) ∷ shown retire
@@ -96,15 +96,15 @@ steps =
     bytes "x1" ∷ bytes "x0" ∷ []) 942) 200)
     ∷ shown start ∷ shown (advance none 200)
     ∷ shown (fetch (op 206 4 Divide false true (bytes "lw x3") none none (bytes "x0" ∷ bytes "x0" ∷ bytes "x0" ∷ bytes "x0" ∷ [])
-    (bytes "x1" ∷ bytes "x1" ∷ bytes "x0" ∷ []) 824) 200) ∷ shown (cell 1 0 14) ∷ shown (text (slot_text (in-unit
+    (bytes "x1" ∷ bytes "x1" ∷ bytes "x0" ∷ []) 824) 200) ∷ shown (cell 1 0 14) ∷ shown (text (slot_text (in_unit
     18446744073709551615) disassembly) 0) ∷ shown (view (in_flight_before 5))
     ∷ shown start ∷ shown (advance none 200)
-    ∷ shown start ∷ shown (advance none 200) ∷ shown (text (unit-name 1) 0) ∷ shown (capacity 18446744073709551615 3) ∷ shown (retry
+    ∷ shown start ∷ shown (advance none 200) ∷ shown (text (unit_name 1) 0) ∷ shown (capacity 18446744073709551615 3) ∷ shown (retry
     (bytes "waiting"))
     ∷ shown start ∷ shown (advance (some 4) 200)
     ∷ shown (fetch (op 4 2 Unknown false false (bytes "xor x7") (some []) (some (bytes "shown")) [] [] 18446744073709551614) 200) ∷
-    shown (view (stage 0)) ∷ shown (text (slot_text (in-station 18446744073709551615) (write 0)) 200)
-    ∷ shown start ∷ shown (capacity 0 3) ∷ shown (advance none 200) ∷ shown (view unit-count) ∷ shown (cell 0 0 200)
+    shown (view (stage 0)) ∷ shown (text (slot_text (in_station 18446744073709551615) (write 0)) 200)
+    ∷ shown start ∷ shown (capacity 0 3) ∷ shown (advance none 200) ∷ shown (view unit_count) ∷ shown (cell 0 0 200)
     ∷ shown (fetch (op 2 11 System false false (bytes "div                                                             ") none (some
     (bytes "sixteen-bytes-ok")) (bytes "x0" ∷ []) [] 466) 200)
     ∷ shown (fetch (op 0 12 Store false false (32 ∷ 126 ∷ 92 ∷ 34 ∷ []) (some (31 ∷ [])) (some []) (bytes "x0" ∷ bytes "x1" ∷
@@ -112,7 +112,7 @@ steps =
     ∷ shown start ∷ shown (view (in_flight_before 3)) ∷ shown retire ∷ shown (resolve 156) ∷ shown (advance none 200) ∷ shown halt ∷
     shown (capacity 0 4) ∷ shown (capacity 0 3)
     ∷ shown start ∷ shown (text (operand_register 4 2) 0) ∷ shown (advance none 200)
-    ∷ shown start ∷ shown retire ∷ shown (reset 108 153) ∷ shown (cell 18446744073709551615 0 200) ∷ shown (text (rename-register
+    ∷ shown start ∷ shown retire ∷ shown (reset 108 153) ∷ shown (cell 18446744073709551615 0 200) ∷ shown (text (rename_register
     18446744073709551615) 0) ∷ shown (resolve 88) ∷ shown (cell 18446744073709551615 0 200) ∷ shown (advance none 200)
     ∷ shown start ∷ shown (advance none 200)
     ∷ rest ∷ []

@@ -5,20 +5,20 @@ use Rattle.laws.specs.Texts.{bytes}
 use Rattle.capability.specs.declared.PipelineInstructionClass.TheVariants.{Divide, Load, Branch, Jump, System}
 use Rattle.model.specs.Config.{timing, PipelineShape, pipeline_shape}
 use Rattle.model.specs.Requests.{
-  in-queue,
-  in-station,
-  fault as fault-note,
+  in_queue,
+  in_station,
+  fault as fault_note,
   write,
   slot_text,
-  row-disassembly,
-  station-label,
-  rename-register,
+  row_disassembly,
+  station_label,
+  rename_register,
 }
 use Rattle.model.specs.Calls.{
   stage_order,
-  buffer-count,
+  buffer_count,
   unit,
-  timeline-row,
+  timeline_row,
   station,
   rename,
   queued,
@@ -45,12 +45,12 @@ shape =
 
 abbrev steps : List Step
 steps =
-    shown (capacity 0 1) ∷ shown (cell 1 0 600) ∷ shown (text (slot_text (in-queue 0) fault-note) 0) ∷ shown (text (row-disassembly
+    shown (capacity 0 1) ∷ shown (cell 1 0 600) ∷ shown (text (slot_text (in_queue 0) fault_note) 0) ∷ shown (text (row_disassembly
     0) 0)
-    ∷ shown start ∷ shown (overlap true) ∷ shown (advance none 600) ∷ shown (text (row-disassembly 1) 0) ∷ shown (text (station-label
+    ∷ shown start ∷ shown (overlap true) ∷ shown (advance none 600) ∷ shown (text (row_disassembly 1) 0) ∷ shown (text (station_label
     0) 3)
-    ∷ shown start ∷ shown (advance (some 9155918282696302449) 600) ∷ shown (resolve 1) ∷ shown (text (rename-register 0) 1) ∷ shown
-    (view (timeline-row 0))
+    ∷ shown start ∷ shown (advance (some 9155918282696302449) 600) ∷ shown (resolve 1) ∷ shown (text (rename_register 0) 1) ∷ shown
+    (view (timeline_row 0))
     ∷ shown (fetch (op 9155918282696302449 6 Jump true false (bytes "fadd x6") none (some (bytes "zzzzzzzzzzzzzzzzz")) (bytes "x6" ∷
     bytes "x6" ∷ []) (bytes "x4" ∷ []) 890) 600) ∷ shown retire ∷ shown retire
     ∷ shown (fetch (op 9 11 Branch true false [] (some (bytes "ffffffffffffffffffffffffffffffffffffffffffffffffffffffffffffffff"))
@@ -67,7 +67,7 @@ steps =
     18446744073709551614) 600)
     ∷ shown (fetch (op 18446744073709551614 0 Divide false false (bytes "   ") (some
     (bytes "ffffffffffffffffffffffffffffffffffffffffffffffffffffffffffffffff")) none (bytes "x4" ∷ bytes "x4" ∷ []) [] 373) 600) ∷
-    shown (view buffer-count) ∷ shown (view (unit 0))
+    shown (view buffer_count) ∷ shown (view (unit 0))
     ∷ shown start ∷ shown (advance none 600) ∷ shown (retry (bytes "waiting"))
     ∷ shown (fetch (op 18446744073709551615 13 Jump true false (bytes "  div  x1 ") none (some (bytes "shown")) [] (bytes "x0" ∷ [])
     613) 600)
@@ -83,11 +83,11 @@ steps =
     (bytes "x3" ∷ bytes "x5" ∷ bytes "x2" ∷ []) 427) 0) ∷ shown (cell 1 0 600)
     ∷ shown (fetch (op 34 14 Divide false false (bytes "bbbbbbbbbbbbbbbbbbbbbbbbbbbbbbbbbbbbbbbbbbbbbbbbbbbbbbbbbbbbbbbb") none (some
     (bytes "sixteen-bytes-ok")) (bytes "x3" ∷ bytes "x5" ∷ []) (bytes "x1" ∷ []) 572) 600)
-    ∷ shown start ∷ shown (advance none 600) ∷ shown (text (slot_text (in-station 0) (write 0)) 2) ∷ shown (view (station 0))
+    ∷ shown start ∷ shown (advance none 600) ∷ shown (text (slot_text (in_station 0) (write 0)) 2) ∷ shown (view (station 0))
     ∷ shown (fetch (op 48 10 System false false (bytes "nop x7") none (some (bytes "shown")) (bytes "x1" ∷ bytes "x5" ∷ [])
     (bytes "x5" ∷ []) 180) 600)
     ∷ shown start ∷ shown (advance none 600) ∷ shown (fault (bytes "waiting"))
-    ∷ shown start ∷ shown (text (station-label 0) 200)
+    ∷ shown start ∷ shown (text (station_label 0) 200)
     ∷ rest ∷ []
 
 abbrev numbers : List ℕ

@@ -7,8 +7,8 @@ use Rattle.model.specs.Config.{timing, unit_spec, PipelineShape, pipeline_shape}
 use Rattle.model.specs.Requests.{on_offer, write, status_message, slot_text, operand_register}
 use Rattle.model.specs.Calls.{
   enabled,
-  trace-count,
-  rename-count,
+  trace_count,
+  rename_count,
   in_flight_before,
   start,
   retire,
@@ -39,8 +39,8 @@ steps =
     ∷ shown start ∷ shown (cell 0 0 800) ∷ shown (advance none 800)
     ∷ shown (fetch (op 9223372036854775815 7 FloatingPoint false false (bytes "sw x6") none (some (bytes "x1")) (bytes "x1" ∷
     bytes "x0" ∷ bytes "x0" ∷ bytes "x2" ∷ []) (bytes "x1" ∷ bytes "x0" ∷ []) 1) 800) ∷ shown (overlap false)
-    ∷ shown start ∷ shown (cell 1 1 800) ∷ shown (view trace-count) ∷ shown (advance none 800) ∷ shown (cell 0 0 800)
-    ∷ shown start ∷ shown (advance none 800) ∷ shown (capacity 1 65) ∷ shown (view rename-count)
+    ∷ shown start ∷ shown (cell 1 1 800) ∷ shown (view trace_count) ∷ shown (advance none 800) ∷ shown (cell 0 0 800)
+    ∷ shown start ∷ shown (advance none 800) ∷ shown (capacity 1 65) ∷ shown (view rename_count)
     ∷ shown start ∷ shown (capacity 1 0) ∷ shown (advance none 266) ∷ shown (advance none 800)
     ∷ shown (fetch (op 9223372036854775822 3 Alu false false (bytes "  jal  x1 ") none none (bytes "x1" ∷ bytes "x1" ∷ [])
     (bytes "x0" ∷ bytes "x2" ∷ (97 ∷ 98 ∷ 127 ∷ []) ∷ []) 258) 800)

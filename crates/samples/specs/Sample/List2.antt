@@ -15,13 +15,13 @@ use Rattle.capability.specs.declared.PipelineInstructionClass.TheVariants.{
   Unknown,
 }
 use Rattle.model.specs.Config.{timing, unit_spec, PipelineShape, pipeline_shape}
-use Rattle.model.specs.Requests.{trace-detail, row-disassembly, stage-name, unit-name, rename-register}
+use Rattle.model.specs.Requests.{trace_detail, row_disassembly, stage_name, unit_name, rename_register}
 use Rattle.model.specs.Calls.{
   enabled,
   entry_stages,
-  timeline-len,
-  queue-count,
-  buffer-capacity,
+  timeline_len,
+  queue_count,
+  buffer_capacity,
   start,
   retire,
   retry,
@@ -47,32 +47,32 @@ shape =
 abbrev steps : List Step
 steps =
     shown (overlap true)
-    ∷ shown start ∷ shown (view buffer-capacity) ∷ shown (capacity 1 3) ∷ shown (advance none 0) ∷ shown (view queue-count)
+    ∷ shown start ∷ shown (view buffer_capacity) ∷ shown (capacity 1 3) ∷ shown (advance none 0) ∷ shown (view queue_count)
     ∷ shown start ∷ shown (advance none 400) ∷ shown (retry (31 ∷ []))
     ∷ shown start ∷ shown (advance none 400)
     ∷ shown (fetch (op 0 7 Alu false false (bytes "add x5") none (some []) [] [] 987) 403) ∷ shown (view enabled) ∷ shown (capacity
     18446744073709551615 0) ∷ shown retire
     ∷ shown start ∷ shown (advance none 400) ∷ shown (fault (bytes "waiting"))
     ∷ shown start ∷ shown (advance none 400)
-    ∷ shown start ∷ shown (text (row-disassembly 0) 6) ∷ shown (cell 2 18446744073709551615 400) ∷ shown (advance none 400)
+    ∷ shown start ∷ shown (text (row_disassembly 0) 6) ∷ shown (cell 2 18446744073709551615 400) ∷ shown (advance none 400)
     ∷ shown start ∷ shown (reset 188 400)
     ∷ shown start ∷ shown retire ∷ shown (advance none 400)
     ∷ shown (fetch (op 188 10 Unknown true true (bytes "beq x8") none (some (bytes "x5")) [] (bytes "x5" ∷ []) 766) 400)
-    ∷ shown start ∷ shown (view timeline-len) ∷ shown (advance none 400)
+    ∷ shown start ∷ shown (view timeline_len) ∷ shown (advance none 400)
     ∷ shown (fetch (op 192 0 Jump true false (bytes "lw x8") (some (bytes "page fault")) (some (bytes "sixteen-bytes-ok"))
     (bytes "x0" ∷ bytes "x5" ∷ bytes " x 1" ∷ bytes "x5" ∷ bytes "x0" ∷ bytes "x3" ∷ bytes "sixteen-bytes-ok" ∷ bytes "x0" ∷ [])
     (bytes "x1" ∷ bytes "x2" ∷ bytes "x2" ∷ bytes "x5" ∷ []) 9223372036854775808) 400)
     ∷ shown start ∷ shown (cell 1 0 400) ∷ shown (advance none 400) ∷ shown (capacity 1 4) ∷ shown (capacity 1 3) ∷ shown (text
-    (trace-detail 0) 42) ∷ shown (retry (31 ∷ []))
+    (trace_detail 0) 42) ∷ shown (retry (31 ∷ []))
     ∷ shown (fetch (op 196 4 Divide false false (bytes "div x6") none none (bytes " x 1" ∷ []) [] 964) 400) ∷ shown (advance none
     400) ∷ shown (view entry_stages)
     ∷ shown (fetch (op 44 6 Jump false false (bytes "sub x4") none (some (bytes "x2")) [] (bytes "x2" ∷ (31 ∷ []) ∷ []) 434) 400)
     ∷ shown start ∷ shown (advance none 400)
     ∷ shown (fetch (op 200 0 Branch true false (32 ∷ 32 ∷ 34 ∷ 113 ∷ 34 ∷ 32 ∷ 32 ∷ 120 ∷ 49 ∷ 32 ∷ []) none (some (bytes "shown"))
-    (bytes "x7" ∷ []) [] 461) 400) ∷ shown (text (unit-name 18446744073709551615) 0) ∷ shown (fault (97 ∷ 98 ∷ 127 ∷ [])) ∷ shown
+    (bytes "x7" ∷ []) [] 461) 400) ∷ shown (text (unit_name 18446744073709551615) 0) ∷ shown (fault (97 ∷ 98 ∷ 127 ∷ [])) ∷ shown
     (retry (bytes "waiting"))
-    ∷ shown start ∷ shown (retry (31 ∷ [])) ∷ shown (overlap false) ∷ shown (advance none 400) ∷ shown (text (trace-detail 0) 43) ∷
-    shown (text (stage-name 2) 1) ∷ shown retire
+    ∷ shown start ∷ shown (retry (31 ∷ [])) ∷ shown (overlap false) ∷ shown (advance none 400) ∷ shown (text (trace_detail 0) 43) ∷
+    shown (text (stage_name 2) 1) ∷ shown retire
     ∷ shown (fetch (op 204 3 Store false false (bytes "zzzzzzzzzzzzzzzzzzzzzzzzzzzzzzzzzzzzzzzzzzzzzzzzzzzzzzzzzzzzzzzzz") none (some
     (bytes "x5")) (bytes "x4" ∷ (97 ∷ 98 ∷ 127 ∷ []) ∷ bytes "x0" ∷ []) (bytes "x2" ∷ bytes "x6" ∷ bytes "x5" ∷ bytes "x1" ∷
     bytes "x1" ∷ []) 752) 0)
@@ -80,8 +80,8 @@ steps =
     (advance none 400) ∷ shown (fault (bytes "waiting"))
     ∷ shown start ∷ shown (advance none 399)
     ∷ shown start ∷ shown (advance (some 224) 400)
-    ∷ shown start ∷ shown retire ∷ shown (advance none 400) ∷ shown (text (trace-detail 18446744073709551615) 0)
-    ∷ shown start ∷ shown (advance none 400) ∷ shown (text (rename-register 0) 200) ∷ shown (advance (some 48) 400) ∷ shown (reset 8
+    ∷ shown start ∷ shown retire ∷ shown (advance none 400) ∷ shown (text (trace_detail 18446744073709551615) 0)
+    ∷ shown start ∷ shown (advance none 400) ∷ shown (text (rename_register 0) 200) ∷ shown (advance (some 48) 400) ∷ shown (reset 8
     400)
     ∷ shown start ∷ shown (advance none 400)
     ∷ shown (fetch (op 8 0 Jump true false (bytes "sw x7") (some []) (some (bytes "x0")) (bytes "x0" ∷ bytes "x3" ∷ bytes "x7" ∷ [])

@@ -4,7 +4,7 @@ use Rattle.std.proofs.Math.Option.{none, some}
 use Rattle.laws.specs.Texts.{bytes}
 use Rattle.capability.specs.declared.PipelineInstructionClass.TheVariants.{Alu, Multiply, Divide, Load, Branch, FloatingPoint, Unknown}
 use Rattle.model.specs.Config.{timing, unit_spec, PipelineShape, pipeline_shape}
-use Rattle.model.specs.Requests.{in-stage, on_offer, fault as fault-note, source, status_message, slot_text}
+use Rattle.model.specs.Requests.{in_stage, on_offer, fault as fault_note, source, status_message, slot_text}
 use Rattle.model.specs.Calls.{
   unit,
   station,
@@ -34,7 +34,7 @@ shape =
 abbrev steps : List Step
 steps =
     shown (overlap true)
-    ∷ shown start ∷ shown (advance none 200) ∷ shown (text (slot_text on_offer fault-note) 0)
+    ∷ shown start ∷ shown (advance none 200) ∷ shown (text (slot_text on_offer fault_note) 0)
     ∷ shown (fetch (op 0 11 FloatingPoint false false (bytes "add x1") none (some []) [] (bytes "x2" ∷ []) 296) 200)
     ∷ shown start ∷ shown (advance none 200) ∷ shown (text status_message 0)
     ∷ shown start ∷ shown (capacity 2 1) ∷ shown (advance none 200) ∷ shown (advance none 200)
@@ -76,7 +76,7 @@ steps =
     ∷ shown start ∷ shown (advance none 0)
     ∷ shown start ∷ shown (advance none 200)
     ∷ shown (fetch (op 176 14 Divide false false (bytes "ecall x9") none none [] [] 481) 200)
-    ∷ shown start ∷ shown (text (slot_text (in-stage 4) (source 0)) 1) ∷ shown (advance none 200)
+    ∷ shown start ∷ shown (text (slot_text (in_stage 4) (source 0)) 1) ∷ shown (advance none 200)
     ∷ shown (fetch (op 9223372036854775984 1 FloatingPoint false false (bytes "? x4") none (some []) (bytes "b.0" ∷ bytes "x7" ∷ [])
     (bytes "x2" ∷ []) 379) 200)
     ∷ shown start ∷ shown (advance none 200)

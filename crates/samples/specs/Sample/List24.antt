@@ -15,21 +15,21 @@ use Rattle.capability.specs.declared.PipelineInstructionClass.TheVariants.{
 }
 use Rattle.model.specs.Config.{timing, unit_spec, PipelineShape, pipeline_shape}
 use Rattle.model.specs.Requests.{
-  in-unit,
+  in_unit,
   write,
   status_message,
   slot_text,
-  trace-detail,
-  row-disassembly,
-  stage-name,
-  unit-name,
-  station-label,
-  rename-register,
+  trace_detail,
+  row_disassembly,
+  stage_name,
+  unit_name,
+  station_label,
+  rename_register,
   operand_register,
 }
 use Rattle.model.specs.Calls.{
-  trace-count,
-  buffer-capacity,
+  trace_count,
+  buffer_capacity,
   stage,
   unit,
   trace,
@@ -61,15 +61,15 @@ shape =
 abbrev steps : List Step
 steps =
     shown (overlap true)
-    ∷ shown start ∷ shown (advance (some 160) 406) ∷ shown (view trace-count)
+    ∷ shown start ∷ shown (advance (some 160) 406) ∷ shown (view trace_count)
     ∷ shown (fetch (op 160 9 Branch true false (bytes "add x6") (some (bytes "page fault")) none (bytes "x1" ∷ bytes "x1" ∷
     bytes "x1" ∷ bytes "x1" ∷ bytes "x0" ∷ bytes "x1" ∷ bytes "x0" ∷ bytes "x2" ∷ []) [] 613) 407) ∷ shown (fault
     (bytes "wwwwwwwwwwwwwwwwwwwwwwwwwwwwwwwwwwwwwwwwwwwwwwwwwwwwwwwwwwwwwwww")) ∷ shown (redirect 20)
     ∷ shown start ∷ shown (text status_message 0) ∷ shown (view (unit 0)) ∷ shown (advance none 400) ∷ shown (text (slot_text
-    (in-unit 0) (write 0)) 0) ∷ shown (capacity 0 4)
+    (in_unit 0) (write 0)) 0) ∷ shown (capacity 0 4)
     ∷ shown (fetch (op 20 0 Alu false false (bytes "sub x5") none none [] [] 545) 400)
-    ∷ shown start ∷ shown (text (station-label 0) 4) ∷ shown (text (rename-register 0) 1) ∷ shown (view (queued 0)) ∷ shown (text
-    (unit-name 1) 1)
+    ∷ shown start ∷ shown (text (station_label 0) 4) ∷ shown (text (rename_register 0) 1) ∷ shown (view (queued 0)) ∷ shown (text
+    (unit_name 1) 1)
     ∷ shown (fetch (op 24 12 Multiply false false (bytes "sub x5") (some
     (bytes "zzzzzzzzzzzzzzzzzzzzzzzzzzzzzzzzzzzzzzzzzzzzzzzzzzzzzzzzzzzzzzzzz")) (some (bytes "x0")) (bytes "x0" ∷ bytes " x 1" ∷
     bytes "x0" ∷ []) (bytes "x0" ∷ bytes "x1" ∷ []) 915) 400) ∷ shown (advance none 400)
@@ -82,12 +82,12 @@ steps =
     ∷ shown (fetch (op 28 5 Jump true true (bytes "nop x6") (some
     (bytes "ffffffffffffffffffffffffffffffffffffffffffffffffffffffffffffffff")) (some (bytes "x0")) (bytes "x2" ∷ []) (bytes "x0" ∷
     []) 532) 400) ∷ shown (capacity 0 3) ∷ shown halt ∷ shown (cell 1 0 400)
-    ∷ shown start ∷ shown retire ∷ shown (retry (bytes "waiting")) ∷ shown (text (row-disassembly 3) 0) ∷ shown (advance none 400) ∷
-    shown (text (trace-detail 0) 0)
+    ∷ shown start ∷ shown retire ∷ shown (retry (bytes "waiting")) ∷ shown (text (row_disassembly 3) 0) ∷ shown (advance none 400) ∷
+    shown (text (trace_detail 0) 0)
     ∷ shown start ∷ shown (cell 0 1 400) ∷ shown (redirect 72)
     ∷ shown start ∷ shown (view (stage 2)) ∷ shown (overlap true) ∷ shown retire ∷ shown (advance none 400) ∷ shown (view (unit 2)) ∷
     shown (fault (bytes "waiting")) ∷ shown (reset 120 400)
-    ∷ shown start ∷ shown (view buffer-capacity)
+    ∷ shown start ∷ shown (view buffer_capacity)
     ∷ shown (fetch (op 120 12 Alu false false (97 ∷ 98 ∷ 127 ∷ []) (some (255 ∷ [])) (some (bytes "shown")) (bytes "x2" ∷ bytes "x2"
     ∷ bytes "x2" ∷ bytes "x1" ∷ []) (bytes "x2" ∷ bytes "x1" ∷ bytes "x1" ∷ []) 609) 400) ∷ shown (advance none 400) ∷ shown (overlap
     false) ∷ shown (capacity 1 3)
@@ -100,10 +100,10 @@ steps =
     ∷ shown start ∷ shown (advance none 400)
     ∷ shown start ∷ shown (advance none 400) ∷ shown (text (operand_register 2 3) 0) ∷ shown (text status_message 0)
     ∷ shown start ∷ shown (cell 0 1 400) ∷ shown (advance none 51) ∷ shown (advance none 400) ∷ shown (advance (some 28) 401)
-    ∷ shown start ∷ shown (text (stage-name 4) 2) ∷ shown retire
+    ∷ shown start ∷ shown (text (stage_name 4) 2) ∷ shown retire
     ∷ shown (fetch (op 3 0 Unknown false false (bytes "sw x7") none (some (31 ∷ [])) (bytes "b.0" ∷ bytes "x0" ∷ bytes "x2" ∷ [])
     (bytes "x0" ∷ []) 811) 400) ∷ shown (resolve 3) ∷ shown (view (trace 0)) ∷ shown retire ∷ shown (view (stage
-    18446744073709551615)) ∷ shown (view buffer-capacity) ∷ shown (resolve 224) ∷ shown (advance (some 224) 400)
+    18446744073709551615)) ∷ shown (view buffer_capacity) ∷ shown (resolve 224) ∷ shown (advance (some 224) 400)
     ∷ shown (fetch (op 224 11 Unknown false false (bytes "sub x1") none none [] [] 443) 400)
     ∷ shown start ∷ shown (advance none 400)
     ∷ shown start ∷ shown (advance none 400) ∷ shown (capacity 0 3)

@@ -4,7 +4,7 @@ use Rattle.std.proofs.Math.Option.{none, some}
 use Rattle.laws.specs.Texts.{bytes}
 use Rattle.capability.specs.declared.PipelineInstructionClass.TheVariants.{Alu, Multiply, Divide, Jump, FloatingPoint, Unknown}
 use Rattle.model.specs.Config.{timing, unit_spec, PipelineShape, pipeline_shape}
-use Rattle.model.specs.Requests.{unit-name}
+use Rattle.model.specs.Requests.{unit_name}
 use Rattle.model.specs.Calls.{start, retire, advance, fetch, overlap, cell, text}
 use Rattle.samples.specs.Lists.{Step, shown, rest, Case, case_of, op}
 use Rattle.capability.specs.declared.PipelineStageRole.TheVariants as role
@@ -101,7 +101,7 @@ steps =
     ∷ shown (fetch (op 9223372036854775826 1 Alu false false (bytes "nop x3") none (some (bytes "shown")) [] [] 944) 200)
     ∷ shown start ∷ shown retire ∷ shown (advance none 200)
     ∷ shown (fetch (op 9223372036854775827 0 Alu false false (bytes "fadd x3") none none (bytes "x4" ∷ []) [] 676) 200) ∷ shown (text
-    (unit-name 0) 200)
+    (unit_name 0) 200)
     ∷ shown start ∷ shown (advance none 200)
     ∷ shown (fetch (op 9223372036854775828 14 Alu false false (bytes "jal x6") none (some (bytes "shown")) (bytes "x4" ∷ bytes "x2" ∷
     []) (bytes "x5" ∷ []) 1) 200)

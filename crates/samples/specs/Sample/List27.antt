@@ -5,26 +5,26 @@ use Rattle.laws.specs.Texts.{bytes}
 use Rattle.capability.specs.declared.PipelineInstructionClass.TheVariants.{Alu, Divide, Load, Store, Branch, Unknown}
 use Rattle.model.specs.Config.{timing, unit_spec, PipelineShape, pipeline_shape}
 use Rattle.model.specs.Requests.{
-  in-station,
-  in-unit,
+  in_station,
+  in_unit,
   destination,
   source,
   status_message,
   slot_text,
-  trace-detail,
-  stage-name,
-  unit-name,
-  station-label,
-  rename-register,
+  trace_detail,
+  stage_name,
+  unit_name,
+  station_label,
+  rename_register,
   cell_label,
   operand_register,
 }
 use Rattle.model.specs.Calls.{
   enabled,
-  rename-count,
+  rename_count,
   stage,
   unit,
-  buffer-entry,
+  buffer_entry,
   start,
   retire,
   retry,
@@ -50,11 +50,11 @@ shape =
 
 abbrev steps : List Step
 steps =
-    shown (overlap true) ∷ shown (text (slot_text (in-station 1) (source 3)) 0) ∷ shown (text (station-label 0) 2) ∷ shown (reset 196
+    shown (overlap true) ∷ shown (text (slot_text (in_station 1) (source 3)) 0) ∷ shown (text (station_label 0) 2) ∷ shown (reset 196
     800) ∷ shown (capacity 0 1)
-    ∷ shown start ∷ shown (text (stage-name 6) 0) ∷ shown (advance none 800) ∷ shown (view (unit 0))
+    ∷ shown start ∷ shown (text (stage_name 6) 0) ∷ shown (advance none 800) ∷ shown (view (unit 0))
     ∷ shown (fetch (op 196 1 Alu false false (bytes "jal x5") (some (bytes "page fault")) (some (bytes "x2")) [] (bytes "x2" ∷ [])
-    459) 800) ∷ shown (advance none 800) ∷ shown (view rename-count) ∷ shown (text (cell_label 24) 0) ∷ shown (cell
+    459) 800) ∷ shown (advance none 800) ∷ shown (view rename_count) ∷ shown (text (cell_label 24) 0) ∷ shown (cell
     18446744073709551615 0 800)
     ∷ shown start ∷ shown (advance none 800) ∷ shown (cell 1 0 800)
     ∷ shown (fetch (op 200 8 Store false false (bytes "cccccccccccccccccccccccccccccccccccccccccccccccccccccccccccccccc") none none
@@ -63,16 +63,16 @@ steps =
     ∷ shown start ∷ shown (advance none 800) ∷ shown (retry (31 ∷ []))
     ∷ shown start ∷ shown (cell 18446744073709551615 0 800) ∷ shown (advance none 800) ∷ shown (cell 1 2 800) ∷ shown (fault
     (bytes "waiting"))
-    ∷ shown start ∷ shown retire ∷ shown (view (buffer-entry 0)) ∷ shown (text (unit-name 0) 2) ∷ shown (capacity 0
-    18446744073709551615) ∷ shown (overlap false) ∷ shown (text (slot_text (in-unit 0) destination) 0) ∷ shown (cell 0 1 800) ∷ shown
+    ∷ shown start ∷ shown retire ∷ shown (view (buffer_entry 0)) ∷ shown (text (unit_name 0) 2) ∷ shown (capacity 0
+    18446744073709551615) ∷ shown (overlap false) ∷ shown (text (slot_text (in_unit 0) destination) 0) ∷ shown (cell 0 1 800) ∷ shown
     (text status_message 200) ∷ shown (advance none 800) ∷ shown halt ∷ shown (retry (bytes "waiting")) ∷ shown (text (cell_label 9)
     0) ∷ shown retire
     ∷ shown (fetch (op 204 18446744073709551614 Store false false (34 ∷ 113 ∷ 34 ∷ 32 ∷ 120 ∷ 48 ∷ []) (some []) (some []) ((31 ∷ [])
     ∷ bytes "x3" ∷ []) ((255 ∷ []) ∷ bytes "x5" ∷ bytes "x7" ∷ bytes "x7" ∷ bytes "x4" ∷ []) 472) 0)
-    ∷ shown start ∷ shown (text (station-label 2) 0) ∷ shown (resolve 13240337085818291334)
+    ∷ shown start ∷ shown (text (station_label 2) 0) ∷ shown (resolve 13240337085818291334)
     ∷ shown (fetch (op 204 14 Divide false true (bytes "sw x5") none none (bytes "x0" ∷ bytes "x5" ∷ bytes "x2" ∷ bytes "x3" ∷
     bytes "x4" ∷ bytes "x7" ∷ bytes "x7" ∷ bytes "x4" ∷ bytes "x0" ∷ []) (bytes "x2" ∷ bytes "x2" ∷ bytes "x2" ∷ bytes "x2" ∷ (31 ∷
-    []) ∷ []) 834) 800) ∷ shown (text (stage-name 3) 200) ∷ shown (advance none 800) ∷ shown (capacity 0 2)
+    []) ∷ []) 834) 800) ∷ shown (text (stage_name 3) 200) ∷ shown (advance none 800) ∷ shown (capacity 0 2)
     ∷ shown start ∷ shown (advance none 800)
     ∷ shown start ∷ shown (view enabled) ∷ shown (advance none 800)
     ∷ shown start ∷ shown (advance none 800) ∷ shown (reset 208 800)
@@ -80,13 +80,13 @@ steps =
     ∷ shown start ∷ shown (advance none 800) ∷ shown (capacity 2 3) ∷ shown (retry
     (bytes "zzzzzzzzzzzzzzzzzzzzzzzzzzzzzzzzzzzzzzzzzzzzzzzzzzzzzzzzzzzzzzzzz"))
     ∷ shown (fetch (op 208 4 Unknown false false (bytes "div x7") (some (97 ∷ 98 ∷ 127 ∷ [])) none [] [] 573) 405)
-    ∷ shown start ∷ shown (text (rename-register 0) 0) ∷ shown (advance none 800) ∷ shown (capacity 0 3)
+    ∷ shown start ∷ shown (text (rename_register 0) 0) ∷ shown (advance none 800) ∷ shown (capacity 0 3)
     ∷ shown (fetch (op 208 7 Load false false (bytes "mul x4") none (some []) (bytes "x7" ∷ []) (bytes "x2" ∷ []) 76) 800) ∷ shown
     (resolve 228)
-    ∷ shown start ∷ shown (text (station-label 1) 2) ∷ shown (overlap true) ∷ shown (view (unit 0)) ∷ shown (advance none 800) ∷
-    shown (text (slot_text (in-station 3) (source 1)) 0)
-    ∷ shown start ∷ shown (capacity 0 4) ∷ shown (advance none 800) ∷ shown (text (slot_text (in-unit 1) (source 5)) 0) ∷ shown (text
-    (stage-name 18446744073709551615) 200)
+    ∷ shown start ∷ shown (text (station_label 1) 2) ∷ shown (overlap true) ∷ shown (view (unit 0)) ∷ shown (advance none 800) ∷
+    shown (text (slot_text (in_station 3) (source 1)) 0)
+    ∷ shown start ∷ shown (capacity 0 4) ∷ shown (advance none 800) ∷ shown (text (slot_text (in_unit 1) (source 5)) 0) ∷ shown (text
+    (stage_name 18446744073709551615) 200)
     ∷ shown (fetch (op 212 11 Alu false false (bytes "lw x1") (some (bytes "page fault")) (some (bytes "x6")) (bytes "x4" ∷
     bytes "x0" ∷ bytes "x2" ∷ []) (bytes "x6" ∷ bytes "x7" ∷ []) 9223372036854775808) 800)
     ∷ shown start ∷ shown (advance none 800) ∷ shown (retry (bytes "waiting"))
@@ -96,7 +96,7 @@ steps =
     ∷ shown (fetch (op 7 10 Store false true (bytes "fadd x6") none (some (bytes "sixteen-bytes-ok")) (bytes "x1" ∷ bytes "x5" ∷ [])
     [] 375) 800)
     ∷ shown start ∷ shown (advance none 800) ∷ shown (resolve 5147220572574518608)
-    ∷ shown start ∷ shown (advance none 800) ∷ shown (text (trace-detail 18446744073709551615) 0) ∷ shown (text (operand_register 1
+    ∷ shown start ∷ shown (advance none 800) ∷ shown (text (trace_detail 18446744073709551615) 0) ∷ shown (text (operand_register 1
     2) 0) ∷ shown retire ∷ shown (advance none 800)
     ∷ shown (fetch (op 9223372036854775808 1 Load false true
     (bytes "ecall                                                           ") none (some (bytes "x0")) (bytes "x5" ∷ bytes "x6" ∷

@@ -5,23 +5,23 @@ use Rattle.laws.specs.Texts.{bytes}
 use Rattle.capability.specs.declared.PipelineInstructionClass.TheVariants.{Alu, Multiply, Divide, Load, Store, Branch, System, Unknown}
 use Rattle.model.specs.Config.{timing, unit_spec, PipelineShape, pipeline_shape}
 use Rattle.model.specs.Requests.{
-  in-queue,
-  in-station,
+  in_queue,
+  in_station,
   destination,
-  fault as fault-note,
+  fault as fault_note,
   source,
   slot_text,
-  trace-detail,
-  row-disassembly,
-  stage-name,
-  station-label,
-  rename-register,
+  trace_detail,
+  row_disassembly,
+  stage_name,
+  station_label,
+  rename_register,
   operand_register,
 }
 use Rattle.model.specs.Calls.{
   stats,
   enabled,
-  unit-count,
+  unit_count,
   station,
   queued,
   start,
@@ -51,25 +51,25 @@ shape =
 abbrev steps : List Step
 steps =
     shown (overlap true)
-    ∷ shown start ∷ shown (advance (some 6190588161699076636) 200) ∷ shown (text (slot_text (in-queue 0) fault-note) 0)
+    ∷ shown start ∷ shown (advance (some 6190588161699076636) 200) ∷ shown (text (slot_text (in_queue 0) fault_note) 0)
     ∷ shown (fetch (op 6190588161699076636 0 Load false false (bytes "nop x1") none (some (bytes "sixteen-bytes-ok")) (bytes "x5" ∷
     bytes "x3" ∷ bytes "x1" ∷ []) [] 787) 200)
     ∷ shown start ∷ shown (advance none 200)
     ∷ shown start ∷ shown (advance none 200) ∷ shown (advance (some 88) 200) ∷ shown (overlap false) ∷ shown (view stats) ∷ shown
-    (text (rename-register 0) 1) ∷ shown (text (slot_text (in-station 3) destination) 0) ∷ shown (capacity 0 65)
+    (text (rename_register 0) 1) ∷ shown (text (slot_text (in_station 3) destination) 0) ∷ shown (capacity 0 65)
     ∷ shown (fetch (op 6190588161699076637 11 Alu false false (bytes "add x2") none (some []) (bytes "x6" ∷ [] ∷ []) (bytes "x3" ∷
-    []) 463) 200) ∷ shown (overlap false) ∷ shown (text (rename-register 0) 0) ∷ shown halt
+    []) 463) 200) ∷ shown (overlap false) ∷ shown (text (rename_register 0) 0) ∷ shown halt
     ∷ shown start ∷ shown (advance none 200) ∷ shown (reset 18446744073709551614 200)
     ∷ shown start ∷ shown (advance (some 8861283483217574691) 200) ∷ shown (capacity 0 65)
     ∷ shown (fetch (op 8861283483217574691 4 Divide false false (bytes "sub x9") none none (bytes "x1" ∷ bytes "x1" ∷ bytes "x1" ∷
     bytes "x1" ∷ bytes "x1" ∷ (10 ∷ []) ∷ []) (bytes "x2" ∷ bytes "x2" ∷ bytes "x2" ∷ (31 ∷ []) ∷ []) 608) 9) ∷ shown (view
-    unit-count) ∷ shown (text (rename-register 0) 200)
+    unit_count) ∷ shown (text (rename_register 0) 200)
     ∷ shown (fetch (op 8861283483217574691 9223372036854775808 Load false false (bytes "lw x7") (some
     (bytes "ffffffffffffffffffffffffffffffffffffffffffffffffffffffffffffffff")) (some (bytes "x7")) [] (bytes "x7" ∷ []) 741) 200) ∷
     shown (capacity 0 0) ∷ shown (cell 0 0 200)
     ∷ shown start ∷ shown (advance none 200)
     ∷ shown start ∷ shown (advance none 200) ∷ shown (overlap true)
-    ∷ shown start ∷ shown (text (trace-detail 0) 0) ∷ shown (advance none 200)
+    ∷ shown start ∷ shown (text (trace_detail 0) 0) ∷ shown (advance none 200)
     ∷ shown (fetch (op 18084655520072350499 0 Unknown false false (bytes "lw x0") none (some []) (bytes "x7" ∷ bytes "x4" ∷
     bytes "x3" ∷ []) ([] ∷ bytes "x3" ∷ bytes "x6" ∷ []) 792) 200) ∷ shown (retry (bytes "waiting"))
     ∷ shown start ∷ shown (resolve 188) ∷ shown (redirect 12)
@@ -81,14 +81,14 @@ steps =
     (bytes "ffffffffffffffffffffffffffffffffffffffffffffffffffffffffffffffff")) none (bytes "x6" ∷ bytes "x7" ∷ bytes "x4" ∷ [])
     (bytes "x1" ∷ bytes "x0" ∷ []) 527) 200) ∷ shown (overlap false) ∷ shown (capacity 0 1)
     ∷ shown start ∷ shown (advance none 200)
-    ∷ shown start ∷ shown (text (stage-name 0) 2) ∷ shown (view (station 0)) ∷ shown (advance none 200)
-    ∷ shown start ∷ shown (advance none 200) ∷ shown (text (row-disassembly 0) 8)
+    ∷ shown start ∷ shown (text (stage_name 0) 2) ∷ shown (view (station 0)) ∷ shown (advance none 200)
+    ∷ shown start ∷ shown (advance none 200) ∷ shown (text (row_disassembly 0) 8)
     ∷ shown start ∷ shown retire ∷ shown (view (queued 0))
     ∷ shown (fetch (op 30 0 Store false false (bytes "add x1") none (some []) (bytes "x7" ∷ bytes "x4" ∷ bytes "x4" ∷ bytes "x4" ∷
     bytes "x1" ∷ bytes "sixteen-bytes-ok" ∷ bytes "x1" ∷ bytes "x0" ∷ bytes "x2" ∷ []) (bytes "x6" ∷ []) 896) 200) ∷ shown (text
-    (slot_text (in-station 0) (source 1)) 0) ∷ shown (advance none 200) ∷ shown (view enabled)
+    (slot_text (in_station 0) (source 1)) 0) ∷ shown (advance none 200) ∷ shown (view enabled)
     ∷ shown start ∷ shown (advance none 200)
-    ∷ shown start ∷ shown (cell 0 0 200) ∷ shown (advance none 200) ∷ shown (text (rename-register 1) 2) ∷ shown (overlap true)
+    ∷ shown start ∷ shown (cell 0 0 200) ∷ shown (advance none 200) ∷ shown (text (rename_register 1) 2) ∷ shown (overlap true)
     ∷ shown start
     ∷ shown (fetch (op 30 1 Alu false false (bytes "add x0") none (some (97 ∷ 98 ∷ 127 ∷ [])) (bytes "x4" ∷ bytes "x5" ∷ bytes "x2" ∷
     bytes "x4" ∷ bytes "x7" ∷ bytes "x4" ∷ bytes "x1" ∷ bytes "x1" ∷ (10 ∷ []) ∷ []) (bytes "x2" ∷ bytes "x2" ∷ bytes "x2" ∷
@@ -100,7 +100,7 @@ steps =
     ∷ shown start ∷ shown (advance none 0) ∷ shown (resolve 116) ∷ shown (cell 1 0 200) ∷ shown (advance none 200)
     ∷ shown start ∷ shown retire ∷ shown (advance none 200) ∷ shown (resolve 17465787988831859147)
     ∷ shown start ∷ shown (advance none 200)
-    ∷ shown start ∷ shown retire ∷ shown (text (station-label 1) 0) ∷ shown (advance (some 104) 200) ∷ shown (view enabled)
+    ∷ shown start ∷ shown retire ∷ shown (text (station_label 1) 0) ∷ shown (advance (some 104) 200) ∷ shown (view enabled)
     ∷ shown (fetch (op 104 0 Store false false (bytes "ecall x2") none (some (bytes "x5")) (bytes "x5" ∷ bytes "x7" ∷ bytes "x0" ∷
     bytes "x4" ∷ bytes "x2" ∷ bytes "x1" ∷ bytes "x3" ∷ bytes "x0" ∷ []) (bytes "x5" ∷ bytes "x7" ∷ bytes "x2" ∷ bytes "x7" ∷ [])
     355) 200)

@@ -15,22 +15,22 @@ use Rattle.capability.specs.declared.PipelineInstructionClass.TheVariants.{
 }
 use Rattle.model.specs.Config.{timing, unit_spec, PipelineShape, pipeline_shape}
 use Rattle.model.specs.Requests.{
-  in-station,
-  in-unit,
+  in_station,
+  in_unit,
   on_offer,
   destination,
   source,
   status_message,
   slot_text,
-  trace-detail,
-  stage-name,
-  station-label,
-  rename-register,
+  trace_detail,
+  stage_name,
+  station_label,
+  rename_register,
 }
 use Rattle.model.specs.Calls.{
   fetch_pc,
-  rename-count,
-  buffer-capacity,
+  rename_count,
+  buffer_capacity,
   unit,
   start,
   retire,
@@ -56,7 +56,7 @@ shape =
 abbrev steps : List Step
 steps =
     shown (overlap true)
-    ∷ shown start ∷ shown (text (rename-register 18446744073709551615) 0) ∷ shown (advance none 200)
+    ∷ shown start ∷ shown (text (rename_register 18446744073709551615) 0) ∷ shown (advance none 200)
     ∷ shown (fetch (op 9223372036854775808 12 Jump true false (bytes "mul x4") (some (97 ∷ 98 ∷ 127 ∷ [])) (some (bytes "x2"))
     (bytes "x0" ∷ bytes "x1" ∷ []) (bytes "x2" ∷ []) 445) 0)
     ∷ shown start ∷ shown (cell 0 0 200) ∷ shown (advance none 200)
@@ -65,37 +65,37 @@ steps =
     582) 200) ∷ shown (advance none 200)
     ∷ shown (fetch (op 0 7 Alu false true (bytes "div x2") (some (31 ∷ [])) none (bytes "x0" ∷ bytes "x1" ∷ bytes "x1" ∷ [])
     (bytes "x2" ∷ bytes "x2" ∷ (128 ∷ []) ∷ []) 248) 200) ∷ shown (text (slot_text on_offer (source 4)) 0)
-    ∷ shown start ∷ shown (text (trace-detail 0) 200)
+    ∷ shown start ∷ shown (text (trace_detail 0) 200)
     ∷ shown (fetch (op 9223372036854775808 2 Alu false false (bytes "fadd x9") none (some (bytes "shown")) (bytes "sixteen-bytes-ok"
     ∷ bytes "x1" ∷ bytes "x1" ∷ []) (bytes "x1" ∷ bytes "x0" ∷ bytes "x2" ∷ bytes "x2" ∷ []) 596) 0) ∷ shown (advance none 200)
     ∷ shown (fetch (op 9223372036854775808 15 Alu false false [] (some []) (some (bytes "sixteen-bytes-ok")) (bytes "x0" ∷ bytes "x1"
-    ∷ [] ∷ bytes "x0" ∷ []) (bytes "x1" ∷ bytes "x0" ∷ []) 886) 200) ∷ shown (text (rename-register 0) 1)
+    ∷ [] ∷ bytes "x0" ∷ []) (bytes "x1" ∷ bytes "x0" ∷ []) 886) 200) ∷ shown (text (rename_register 0) 1)
     ∷ shown start ∷ shown (advance none 200)
     ∷ shown (fetch (op 9223372036854775812 1 Alu false false (34 ∷ 113 ∷ 34 ∷ 32 ∷ 120 ∷ 48 ∷ []) none none (bytes "x0" ∷ []) [] 373)
     206)
     ∷ shown start ∷ shown (advance none 200)
     ∷ shown (fetch (op 9223372036854775816 12 Divide true false (bytes "ecall x5") none (some (bytes "x1")) (bytes "x2" ∷ bytes "x0"
-    ∷ bytes "x2" ∷ bytes "x2" ∷ []) (bytes "x1" ∷ bytes "sixteen-bytes-ok" ∷ bytes "x2" ∷ []) 82) 200) ∷ shown (text (station-label
+    ∷ bytes "x2" ∷ bytes "x2" ∷ []) (bytes "x1" ∷ bytes "sixteen-bytes-ok" ∷ bytes "x2" ∷ []) 82) 200) ∷ shown (text (station_label
     4) 0) ∷ shown (view fetch_pc)
     ∷ shown start ∷ shown (advance none 200) ∷ shown (text status_message 0)
-    ∷ shown start ∷ shown (overlap false) ∷ shown (advance none 200) ∷ shown (text (station-label 1) 2) ∷ shown (text (stage-name 5)
+    ∷ shown start ∷ shown (overlap false) ∷ shown (advance none 200) ∷ shown (text (station_label 1) 2) ∷ shown (text (stage_name 5)
     0)
     ∷ shown start ∷ shown retire ∷ shown (capacity 0 3) ∷ shown retire ∷ shown (advance (some 18446744073709551615) 200) ∷ shown
     (capacity 1 3)
-    ∷ shown start ∷ shown (view rename-count) ∷ shown (advance none 200) ∷ shown (advance none 0)
-    ∷ shown start ∷ shown (text (trace-detail 0) 0) ∷ shown halt ∷ shown halt ∷ shown (advance none 200)
-    ∷ shown start ∷ shown (view buffer-capacity) ∷ shown (advance none 200) ∷ shown (redirect 1)
-    ∷ shown start ∷ shown (advance none 200) ∷ shown (text (rename-register 0) 200)
+    ∷ shown start ∷ shown (view rename_count) ∷ shown (advance none 200) ∷ shown (advance none 0)
+    ∷ shown start ∷ shown (text (trace_detail 0) 0) ∷ shown halt ∷ shown halt ∷ shown (advance none 200)
+    ∷ shown start ∷ shown (view buffer_capacity) ∷ shown (advance none 200) ∷ shown (redirect 1)
+    ∷ shown start ∷ shown (advance none 200) ∷ shown (text (rename_register 0) 200)
     ∷ shown (fetch (op 1 1 Divide false false (34 ∷ 113 ∷ 34 ∷ 32 ∷ 120 ∷ 50 ∷ []) none (some (bytes "x1")) [] (bytes "x1" ∷ []) 988)
     200)
-    ∷ shown start ∷ shown (text (slot_text (in-unit 1) (source 0)) 200) ∷ shown (advance none 200)
+    ∷ shown start ∷ shown (text (slot_text (in_unit 1) (source 0)) 200) ∷ shown (advance none 200)
     ∷ shown (fetch (op 5 12 Divide false false (bytes "sub x3") none (some []) (bytes "x1" ∷ bytes "x1" ∷ bytes "x0" ∷ bytes "x1" ∷
     (31 ∷ []) ∷ []) (bytes "rflags" ∷ []) 18446744073709551614) 200)
     ∷ shown start ∷ shown (cell 0 3 200) ∷ shown (advance (some 18446744073709551615) 200)
     ∷ shown start ∷ shown (advance none 200) ∷ shown (capacity 0 3) ∷ shown (view (unit 0)) ∷ shown (retry [])
-    ∷ shown start ∷ shown (advance none 200) ∷ shown (capacity 18446744073709551615 3) ∷ shown (text (slot_text (in-station 1)
+    ∷ shown start ∷ shown (advance none 200) ∷ shown (capacity 18446744073709551615 3) ∷ shown (text (slot_text (in_station 1)
     (source 0)) 0)
-    ∷ shown start ∷ shown (text (slot_text (in-station 4) destination) 0) ∷ shown (advance none 200)
+    ∷ shown start ∷ shown (text (slot_text (in_station 4) destination) 0) ∷ shown (advance none 200)
     ∷ shown start ∷ shown (capacity 0 3)
     ∷ shown start ∷ shown (advance none 200)
     ∷ shown start ∷ shown (overlap true)

@@ -5,7 +5,7 @@ use Rattle.laws.specs.Texts.{bytes}
 use Rattle.capability.specs.declared.PipelineInstructionClass.TheVariants.{Alu, Multiply, Branch, Jump, Unknown}
 use Rattle.model.specs.Config.{timing, unit_spec, PipelineShape, pipeline_shape}
 use Rattle.model.specs.Requests.{cell_label}
-use Rattle.model.specs.Calls.{rename-count, start, retire, advance, fetch, overlap, view, text}
+use Rattle.model.specs.Calls.{rename_count, start, retire, advance, fetch, overlap, view, text}
 use Rattle.samples.specs.Lists.{Step, shown, rest, Case, case_of, op, idle}
 use Rattle.capability.specs.declared.PipelineStageRole.TheVariants as role
 
@@ -33,7 +33,7 @@ steps =
     ∷ idle 3 200 ∷ shown retire ∷ shown (advance none 200)
     ∷ shown (fetch (op 18446744073709551610 0 Jump false true (bytes "? x8") none (some (bytes "x2")) (bytes "x5" ∷ bytes "x7" ∷ [])
     (bytes "x2" ∷ bytes "x3" ∷ []) 324) 200)
-    ∷ shown start ∷ shown (advance none 205) ∷ shown (view rename-count)
+    ∷ shown start ∷ shown (advance none 205) ∷ shown (view rename_count)
     ∷ idle 3 200 ∷ shown retire ∷ shown (advance none 200)
     ∷ rest ∷ []
 

@@ -14,20 +14,20 @@ use Rattle.capability.specs.declared.PipelineInstructionClass.TheVariants.{
 }
 use Rattle.model.specs.Config.{timing, unit_spec, PipelineShape, pipeline_shape}
 use Rattle.model.specs.Requests.{
-  in-queue,
-  in-station,
-  in-stage,
-  in-unit,
+  in_queue,
+  in_station,
+  in_stage,
+  in_unit,
   disassembly,
-  fault as fault-note,
+  fault as fault_note,
   source,
   write,
   slot_text,
-  trace-detail,
-  row-disassembly,
-  stage-name,
-  unit-name,
-  station-label,
+  trace_detail,
+  row_disassembly,
+  stage_name,
+  unit_name,
+  station_label,
   cell_label,
   operand_register,
 }
@@ -35,10 +35,10 @@ use Rattle.model.specs.Calls.{
   status,
   resume_pc,
   entry_stages,
-  station-count,
-  queue-count,
-  buffer-count,
-  buffer-capacity,
+  station_count,
+  queue_count,
+  buffer_count,
+  buffer_capacity,
   unit,
   trace,
   start,
@@ -66,8 +66,8 @@ shape =
 abbrev steps : List Step
 steps =
     shown (overlap true)
-    ∷ shown start ∷ shown (fault (bytes "waiting")) ∷ shown (redirect 192) ∷ shown (view queue-count)
-    ∷ shown start ∷ shown (capacity 2 65) ∷ shown (advance none 400) ∷ shown (text (slot_text (in-queue 0) fault-note) 0)
+    ∷ shown start ∷ shown (fault (bytes "waiting")) ∷ shown (redirect 192) ∷ shown (view queue_count)
+    ∷ shown start ∷ shown (capacity 2 65) ∷ shown (advance none 400) ∷ shown (text (slot_text (in_queue 0) fault_note) 0)
     ∷ shown (fetch (op 192 4 Alu false false (bytes "~~~~~~~~~~~~~~~~~~~~~~~~~~~~~~~~~~~~~~~~~~~~~~~~~~~~~~~~~~~~~~~~") none (some
     []) (bytes "x0" ∷ bytes "x0" ∷ bytes "x7" ∷ []) (bytes "x3" ∷ []) 240) 400)
     ∷ shown start ∷ shown (reset 14044098180716713324 400)
@@ -77,8 +77,8 @@ steps =
     []) ∷ []) 973) 400)
     ∷ shown (fetch (op 14044098180716713324 9 Multiply false false (bytes "fadd x1") none (some (bytes "sixteen-bytes-ok"))
     (bytes "x6" ∷ bytes "x4" ∷ bytes "x2" ∷ bytes "x4" ∷ bytes "x6" ∷ bytes "x1" ∷ bytes "x0" ∷ []) (bytes "x1" ∷ bytes "x7" ∷
-    bytes "b.0" ∷ bytes "x3" ∷ []) 527) 400) ∷ shown (text (slot_text (in-unit 0) (write 0)) 0) ∷ shown (capacity 1 3) ∷ shown (text
-    (slot_text (in-station 7) (source 4)) 0) ∷ shown (advance none 400)
+    bytes "b.0" ∷ bytes "x3" ∷ []) 527) 400) ∷ shown (text (slot_text (in_unit 0) (write 0)) 0) ∷ shown (capacity 1 3) ∷ shown (text
+    (slot_text (in_station 7) (source 4)) 0) ∷ shown (advance none 400)
     ∷ shown (fetch (op 14044098180716713324 4 Multiply false false (bytes "ecall x7") none (some (bytes "sixteen-bytes-ok"))
     (bytes "sixteen-bytes-ok" ∷ bytes "x2" ∷ []) (bytes "x1" ∷ []) 0) 400)
     ∷ shown start ∷ shown (advance none 400) ∷ shown (retry
@@ -93,25 +93,25 @@ steps =
     (bytes "x0" ∷ []) 526) 400) ∷ shown (capacity 2 18446744073709551614)
     ∷ shown start ∷ shown (advance none 400)
     ∷ shown (fetch (op 14044098180716713343 13 Jump true true (bytes "? x0") none (some []) (bytes "x7" ∷ bytes "x2" ∷ bytes "x4" ∷
-    []) (bytes "x4" ∷ bytes "rflags" ∷ bytes "x7" ∷ bytes "rflags" ∷ []) 372) 400) ∷ shown (view buffer-count)
+    []) (bytes "x4" ∷ bytes "rflags" ∷ bytes "x7" ∷ bytes "rflags" ∷ []) 372) 400) ∷ shown (view buffer_count)
     ∷ shown start ∷ shown (advance none 400) ∷ shown (resolve 18446744073709551615)
     ∷ shown start ∷ shown (advance none 400)
-    ∷ shown start ∷ shown (advance (some 68) 0) ∷ shown (text (trace-detail 0) 0) ∷ shown (advance none 400)
-    ∷ shown start ∷ shown retire ∷ shown (text (stage-name 2) 1) ∷ shown (overlap true) ∷ shown (advance none 404)
+    ∷ shown start ∷ shown (advance (some 68) 0) ∷ shown (text (trace_detail 0) 0) ∷ shown (advance none 400)
+    ∷ shown start ∷ shown retire ∷ shown (text (stage_name 2) 1) ∷ shown (overlap true) ∷ shown (advance none 404)
     ∷ shown (fetch (op 14044098180716713343 6 Alu false false (bytes "jal x4") none none (bytes "x6" ∷ []) ([] ∷ []) 47) 400) ∷ shown
     (cell 1 0 400)
     ∷ shown (fetch (op 14044098180716713349 5 Divide false false
     (bytes "zzzzzzzzzzzzzzzzzzzzzzzzzzzzzzzzzzzzzzzzzzzzzzzzzzzzzzzzzzzzzzzzz") (some
     (bytes "ffffffffffffffffffffffffffffffffffffffffffffffffffffffffffffffff")) (some (bytes "x0")) (bytes " x 1" ∷ []) (bytes "x0" ∷
     []) 325) 0)
-    ∷ shown start ∷ shown (view buffer-capacity) ∷ shown (view status) ∷ shown (advance none 400)
-    ∷ shown start ∷ shown (view station-count) ∷ shown (advance none 400)
+    ∷ shown start ∷ shown (view buffer_capacity) ∷ shown (view status) ∷ shown (advance none 400)
+    ∷ shown start ∷ shown (view station_count) ∷ shown (advance none 400)
     ∷ shown start ∷ shown (capacity 0 3) ∷ shown (advance none 400) ∷ shown (view (unit 0))
     ∷ shown start ∷ shown retire
     ∷ shown (fetch (op 14044098180716713349 9 Jump true false (31 ∷ []) none (some (10 ∷ [])) [] (bytes "x6" ∷ []) 55) 400) ∷ shown
     (advance (some 17604763866506897701) 400) ∷ shown (capacity 0 65)
     ∷ shown (fetch (op 17604763866506897701 2 Alu false false (bytes "sw x1") none none [] [] 204) 400) ∷ shown (view entry_stages) ∷
-    shown (text (stage-name 0) 200)
+    shown (text (stage_name 0) 200)
     ∷ shown start ∷ shown (advance none 400)
     ∷ shown (fetch (op 17604763866506897703 6 Divide false false (bytes "fadd x1") (some []) none [] [] 497) 400)
     ∷ shown start ∷ shown (advance none 400)
@@ -120,22 +120,22 @@ steps =
     ∷ shown start
     ∷ shown (fetch (op 17604763866506897709 0 Alu false false (bytes "beq x3") (some (bytes "page fault")) (some (97 ∷ 98 ∷ 127 ∷
     [])) (bytes "x0" ∷ bytes "x4" ∷ bytes "x0" ∷ bytes "x1" ∷ bytes " x 1" ∷ bytes "x6" ∷ bytes "x3" ∷ bytes "x6" ∷ bytes "x6" ∷ [])
-    (bytes "x1" ∷ bytes "x2" ∷ bytes "x2" ∷ bytes "x7" ∷ bytes "x4" ∷ []) 637) 400) ∷ shown (text (slot_text (in-stage
-    18446744073709551615) (source 0)) 0) ∷ shown retire ∷ shown (text (row-disassembly 1) 7) ∷ shown (overlap true) ∷ shown (retry
+    (bytes "x1" ∷ bytes "x2" ∷ bytes "x2" ∷ bytes "x7" ∷ bytes "x4" ∷ []) 637) 400) ∷ shown (text (slot_text (in_stage
+    18446744073709551615) (source 0)) 0) ∷ shown retire ∷ shown (text (row_disassembly 1) 7) ∷ shown (overlap true) ∷ shown (retry
     (bytes "waiting")) ∷ shown (retry (bytes "waiting"))
     ∷ shown (fetch (op 17604763866506897709 6 Store false false (bytes "? x2") none (some (bytes "x0")) (bytes "x0" ∷ bytes "x5" ∷
     bytes "x5" ∷ bytes "x1" ∷ bytes "x1" ∷ bytes "x0" ∷ bytes "x5" ∷ bytes "c.0" ∷ bytes "x1" ∷ []) (bytes "x0" ∷ bytes " x 1" ∷ [])
     739) 400) ∷ shown (view (trace 0)) ∷ shown (advance none 400)
     ∷ shown (fetch (op 17604763866506897709 6 Alu false false (bytes "mul x0") none (some (bytes "sixteen-bytes-ok")) (bytes "x4" ∷
-    []) [] 1) 405) ∷ shown (text (slot_text (in-stage 1) disassembly) 7)
+    []) [] 1) 405) ∷ shown (text (slot_text (in_stage 1) disassembly) 7)
     ∷ shown start ∷ shown (advance none 400)
-    ∷ shown start ∷ shown (cell 0 0 400) ∷ shown retire ∷ shown (text (operand_register 3 0) 200) ∷ shown (text (station-label 2) 0)
+    ∷ shown start ∷ shown (cell 0 0 400) ∷ shown retire ∷ shown (text (operand_register 3 0) 200) ∷ shown (text (station_label 2) 0)
     ∷ shown (resolve 112) ∷ shown (retry (bytes "zzzzzzzzzzzzzzzzzzzzzzzzzzzzzzzzzzzzzzzzzzzzzzzzzzzzzzzzzzzzzzzzz")) ∷ shown
     (advance none 400)
     ∷ shown (fetch (op 17604763866506897715 14 Divide false false (bytes "lw x1") none (some (bytes "x2")) (bytes "x6" ∷ bytes "x6" ∷
     bytes "x5" ∷ []) (bytes "x2" ∷ []) 303) 400)
-    ∷ shown start ∷ shown (resolve 13683309356205069886) ∷ shown (advance none 400) ∷ shown (text (unit-name 1) 3) ∷ shown (text
-    (stage-name 0) 2) ∷ shown (text (stage-name 3) 2)
+    ∷ shown start ∷ shown (resolve 13683309356205069886) ∷ shown (advance none 400) ∷ shown (text (unit_name 1) 3) ∷ shown (text
+    (stage_name 0) 2) ∷ shown (text (stage_name 3) 2)
     ∷ shown start ∷ shown (fault (bytes "waiting")) ∷ shown retire ∷ shown (advance none 400) ∷ shown (resolve 124) ∷ shown (text
     (cell_label 7) 0)
     ∷ rest ∷ []

@@ -5,15 +5,15 @@ use Rattle.laws.specs.Texts.{bytes}
 use Rattle.capability.specs.declared.PipelineInstructionClass.TheVariants.{Alu, Multiply, Divide, Load, Store}
 use Rattle.model.specs.Config.{timing, unit_spec, PipelineShape, pipeline_shape}
 use Rattle.model.specs.Requests.{
-  in-queue,
-  in-unit,
+  in_queue,
+  in_unit,
   source,
   write,
   slot_text,
-  trace-detail,
-  row-disassembly,
-  unit-name,
-  rename-register,
+  trace_detail,
+  row_disassembly,
+  unit_name,
+  rename_register,
   cell_label,
   operand_register,
 }
@@ -50,7 +50,7 @@ steps =
     ∷ shown start ∷ shown (advance none 800)
     ∷ shown (fetch (op 0 11 Store false false (bytes "ecall x2") none (some (bytes "sixteen-bytes-ok")) (bytes "x2" ∷ bytes "x7" ∷
     bytes "x4" ∷ bytes "x4" ∷ bytes "rflags" ∷ bytes "x3" ∷ bytes "x2" ∷ bytes "x1" ∷ bytes "x2" ∷ []) (bytes "x6" ∷ []) 564) 800) ∷
-    shown retire ∷ shown (cell 0 0 399) ∷ shown (text (slot_text (in-unit 0) (source 0)) 0) ∷ shown (text (slot_text (in-queue
+    shown retire ∷ shown (cell 0 0 399) ∷ shown (text (slot_text (in_unit 0) (source 0)) 0) ∷ shown (text (slot_text (in_queue
     18446744073709551615) (write 0)) 1)
     ∷ shown (fetch (op 0 0 Load false false (34 ∷ 113 ∷ 34 ∷ 32 ∷ 120 ∷ 49 ∷ []) (some
     (bytes "zzzzzzzzzzzzzzzzzzzzzzzzzzzzzzzzzzzzzzzzzzzzzzzzzzzzzzzzzzzzzzzzz")) (some (bytes "a.0")) [] (bytes "a.0" ∷ []) 1) 800) ∷
@@ -68,7 +68,7 @@ steps =
     ∷ shown start ∷ shown (advance none 800)
     ∷ shown start ∷ shown retire ∷ shown (advance none 800)
     ∷ shown start ∷ shown (advance none 800)
-    ∷ shown start ∷ shown (text (trace-detail 0) 0) ∷ shown halt ∷ shown (advance none 800)
+    ∷ shown start ∷ shown (text (trace_detail 0) 0) ∷ shown halt ∷ shown (advance none 800)
     ∷ shown start ∷ shown (advance (some 9930876416839404254) 800) ∷ shown (capacity 1 3)
     ∷ shown start ∷ shown (advance none 800) ∷ shown (advance none 0) ∷ shown (view status) ∷ shown (advance (some
     17438826007650544234) 800)
@@ -89,9 +89,9 @@ steps =
     ∷ shown start ∷ shown (advance none 800)
     ∷ shown start ∷ shown (advance none 800) ∷ shown halt
     ∷ shown start ∷ shown (advance none 800) ∷ shown (text (operand_register 0 3) 200)
-    ∷ shown start ∷ shown (advance none 800) ∷ shown retire ∷ shown (text (rename-register 0) 200) ∷ shown (text (unit-name 0) 1) ∷
-    shown (text (slot_text (in-queue 1) (write 0)) 1) ∷ shown retire ∷ shown (cell 18446744073709551615 18446744073709551615 800) ∷
-    shown retire ∷ shown (text (cell_label 32) 1) ∷ shown (view (stage 3)) ∷ shown (text (row-disassembly 2) 1) ∷ shown (advance none
+    ∷ shown start ∷ shown (advance none 800) ∷ shown retire ∷ shown (text (rename_register 0) 200) ∷ shown (text (unit_name 0) 1) ∷
+    shown (text (slot_text (in_queue 1) (write 0)) 1) ∷ shown retire ∷ shown (cell 18446744073709551615 18446744073709551615 800) ∷
+    shown retire ∷ shown (text (cell_label 32) 1) ∷ shown (view (stage 3)) ∷ shown (text (row_disassembly 2) 1) ∷ shown (advance none
     0) ∷ shown (advance (some 9223372036854775808) 0) ∷ shown (view stage_order)
     ∷ shown start ∷ shown (advance (some 68) 800) ∷ shown (redirect 44)
     ∷ shown start

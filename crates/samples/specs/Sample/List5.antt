@@ -5,16 +5,16 @@ use Rattle.laws.specs.Texts.{bytes}
 use Rattle.capability.specs.declared.PipelineInstructionClass.TheVariants.{Alu, Multiply, Divide, Load, Store, Branch, System, Unknown}
 use Rattle.model.specs.Config.{timing, unit_spec, PipelineShape, pipeline_shape}
 use Rattle.model.specs.Requests.{
-  in-station,
-  in-unit,
+  in_station,
+  in_unit,
   source,
   write,
   status_message,
   slot_text,
-  trace-detail,
-  row-disassembly,
-  station-label,
-  rename-register,
+  trace_detail,
+  row_disassembly,
+  station_label,
+  rename_register,
   cell_label,
   operand_register,
 }
@@ -22,9 +22,9 @@ use Rattle.model.specs.Calls.{
   status,
   stats,
   resume_pc,
-  trace-count,
-  rename-count,
-  buffer-capacity,
+  trace_count,
+  rename_count,
+  buffer_capacity,
   in_flight_before,
   rename,
   start,
@@ -65,25 +65,25 @@ steps =
     974) 0) ∷ shown (capacity 0 3) ∷ shown (text (cell_label 9) 0) ∷ shown (advance none 400) ∷ shown (cell 0 0 400)
     ∷ shown start ∷ shown (capacity 0 3) ∷ shown (advance none 400) ∷ shown (reset 1 400)
     ∷ shown start ∷ shown (capacity 2 3) ∷ shown (advance none 400) ∷ shown halt ∷ shown (advance (some 248) 400) ∷ shown (resolve
-    160) ∷ shown (view rename-count) ∷ shown (view resume_pc) ∷ shown (view trace-count) ∷ shown (view status)
+    160) ∷ shown (view rename_count) ∷ shown (view resume_pc) ∷ shown (view trace_count) ∷ shown (view status)
     ∷ shown start ∷ shown (redirect 76) ∷ shown (text (cell_label 255) 0) ∷ shown (text (operand_register 0 2) 1) ∷ shown (text
-    (station-label 0) 4) ∷ shown (view buffer-capacity)
+    (station_label 0) 4) ∷ shown (view buffer_capacity)
     ∷ shown start
     ∷ shown (fetch (op 76 8 System false false (97 ∷ 98 ∷ 127 ∷ []) none (some (bytes "x0")) (bytes " x 1" ∷ bytes "x6" ∷ bytes "x1"
     ∷ []) (bytes "x0" ∷ bytes "x2" ∷ []) 898) 400) ∷ shown (advance none 400)
     ∷ shown (fetch (op 76 4 Branch true false (bytes "div x1") none (some (bytes "x5")) (bytes "x0" ∷ bytes "x3" ∷ []) (bytes "x5" ∷
     []) 489) 400) ∷ shown (view (in_flight_before 0))
-    ∷ shown start ∷ shown (advance none 400) ∷ shown (capacity 0 3) ∷ shown (text (slot_text (in-unit 0) (write 5)) 0)
+    ∷ shown start ∷ shown (advance none 400) ∷ shown (capacity 0 3) ∷ shown (text (slot_text (in_unit 0) (write 5)) 0)
     ∷ shown start ∷ shown (view (in_flight_before 0)) ∷ shown (advance none 400) ∷ shown (text status_message 0)
     ∷ shown start ∷ shown (capacity 0 2) ∷ shown (advance none 400) ∷ shown (resolve 196)
-    ∷ shown start ∷ shown (text (trace-detail 0) 0) ∷ shown (advance none 400) ∷ shown (overlap false) ∷ shown (cell 1 0 400)
+    ∷ shown start ∷ shown (text (trace_detail 0) 0) ∷ shown (advance none 400) ∷ shown (overlap false) ∷ shown (cell 1 0 400)
     ∷ shown start ∷ shown (resolve 80) ∷ shown (cell 0 1 400) ∷ shown retire ∷ shown (resolve 1029074110373462920) ∷ shown retire ∷
     shown (advance (some 1029074110373462920) 400) ∷ shown (overlap false)
     ∷ shown (fetch (op 1029074110373462920 12 Alu false false (bytes "sub x2") (some (bytes "page fault")) (some (bytes "x5"))
     (bytes "x1" ∷ bytes "x6" ∷ bytes "x1" ∷ []) (bytes "x5" ∷ bytes "x2" ∷ []) 493) 400) ∷ shown retire
     ∷ shown (fetch (op 1029074110373462924 3 Store false false (bytes "xor x0") none none (bytes "x1" ∷ bytes "x1" ∷ bytes "x1" ∷
     bytes "x1" ∷ bytes "x1" ∷ bytes "x1" ∷ (97 ∷ 98 ∷ 127 ∷ []) ∷ []) [] 18446744073709551615) 0) ∷ shown (cell 3 1 400) ∷ shown
-    (text (rename-register 0) 0)
+    (text (rename_register 0) 0)
     ∷ shown start ∷ shown (overlap false) ∷ shown (advance none 400)
     ∷ shown start ∷ shown (cell 2 0 405) ∷ shown (resolve 12) ∷ shown (cell 0 3 399) ∷ shown (cell 0 1 169)
     ∷ shown (fetch (op 1029074110373462924 3 Unknown false true (bytes "sub x7") none none (bytes "x0" ∷ bytes "x7" ∷ bytes "x7" ∷
@@ -91,20 +91,20 @@ steps =
     none 400)
     ∷ shown start ∷ shown (view (in_flight_before 1)) ∷ shown (advance none 400)
     ∷ shown start ∷ shown (advance none 400)
-    ∷ shown start ∷ shown (view buffer-capacity) ∷ shown (advance none 400) ∷ shown (redirect 6210811920114447489) ∷ shown (text
-    (trace-detail 0) 0) ∷ shown (text (row-disassembly 0) 5)
+    ∷ shown start ∷ shown (view buffer_capacity) ∷ shown (advance none 400) ∷ shown (redirect 6210811920114447489) ∷ shown (text
+    (trace_detail 0) 0) ∷ shown (text (row_disassembly 0) 5)
     ∷ shown start ∷ shown (resolve 132)
     ∷ shown (fetch (op 6210811920114447489 9 Alu false false (bytes "  jal  x1 ") (some
     (bytes "ffffffffffffffffffffffffffffffffffffffffffffffffffffffffffffffff")) (some (bytes "x7")) (bytes "x4" ∷ bytes "b.0" ∷ [])
     (bytes " x 1" ∷ bytes "c.0" ∷ [] ∷ bytes "x3" ∷ bytes "x4" ∷ []) 194) 0) ∷ shown (overlap true) ∷ shown (advance none 400)
     ∷ shown (fetch (op 6210811920114447489 6 System false false (bytes "nop x9") none (some (bytes "d.0")) (bytes "x7" ∷ bytes "x3" ∷
     bytes "rflags" ∷ bytes "x2" ∷ bytes "x6" ∷ bytes "x1" ∷ [] ∷ bytes "x3" ∷ []) (bytes "d.0" ∷ bytes "x6" ∷ bytes "x6" ∷ bytes "x6"
-    ∷ []) 530) 400) ∷ shown (text (slot_text (in-station 1) (source 1)) 0)
+    ∷ []) 530) 400) ∷ shown (text (slot_text (in_station 1) (source 1)) 0)
     ∷ shown start ∷ shown (advance none 400)
     ∷ shown (fetch (op 6210811920114447493 1 Alu false false
     (bytes "ecall                                                           ") (some []) (some (bytes "x6")) (bytes "x7" ∷ bytes "x7"
     ∷ []) (bytes "x6" ∷ []) 282) 400) ∷ shown (view stats) ∷ shown (capacity 0 3) ∷ shown (capacity 0 65) ∷ shown (capacity 0 4)
-    ∷ shown start ∷ shown (text (slot_text (in-station 18446744073709551615) (source 0)) 0) ∷ shown (advance none 400)
+    ∷ shown start ∷ shown (text (slot_text (in_station 18446744073709551615) (source 0)) 0) ∷ shown (advance none 400)
     ∷ shown start ∷ shown (advance none 400)
     ∷ shown start
     ∷ rest ∷ []

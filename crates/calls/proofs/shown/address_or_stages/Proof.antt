@@ -30,7 +30,7 @@ returns-3 c =
     let s = c.before.before in
     let r = c.before.match.rest in
     let e : s.args.tag ≡ 17 = omega (arith, r.0.1, r.1, s.requires.1.0, s.requires.1.1) in
-    shown_by plain_view e _ (ap shown_number c.stage-count.ensures)
+    shown_by plain_view e _ (ap shown_number c.stage_count.ensures)
 
 pub address-or-stages-spec : {M : Type 1} → statement M
 address-or-stages-spec =

@@ -21,15 +21,15 @@ station-count-requires c κs = search rules
 
 returns : tie.Need-returns
 unfolding show plain_view
-returns c = shown_by plain_view c.before.match.keys1 _ (ap shown_number c.unit-count.ensures)
+returns c = shown_by plain_view c.before.match.keys1 _ (ap shown_number c.unit_count.ensures)
 
 returns-2 : tie.Need-returns-2
 unfolding show plain_view
-returns-2 c = shown_by plain_view c.before.match.keys2 _ (ap shown_number c.trace-count.ensures)
+returns-2 c = shown_by plain_view c.before.match.keys2 _ (ap shown_number c.trace_count.ensures)
 
 returns-3 : tie.Need-returns-3
 unfolding show plain_view
-returns-3 c = shown_by plain_view c.before.match.keys3 _ (ap shown_number c.timeline-len.ensures)
+returns-3 c = shown_by plain_view c.before.match.keys3 _ (ap shown_number c.timeline_len.ensures)
 
 returns-4 : tie.Need-returns-4
 unfolding show plain_view
@@ -37,7 +37,7 @@ returns-4 c =
     let s = c.before.before in
     let r = c.before.match.rest in
     let e : s.args.tag ≡ 24 = omega (arith, r.0.0.1, r.0.1, r.1, s.requires.1.0, s.requires.1.1) in
-    shown_by plain_view e _ (ap shown_number c.station-count.ensures)
+    shown_by plain_view e _ (ap shown_number c.station_count.ensures)
 
 pub count-units-spec : {M : Type 1} → statement M
 count-units-spec =

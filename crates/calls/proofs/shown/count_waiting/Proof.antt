@@ -21,15 +21,15 @@ buffer-capacity-requires c κs = search rules
 
 returns : tie.Need-returns
 unfolding show plain_view
-returns c = shown_by plain_view c.before.match.keys1 _ (ap shown_number c.rename-count.ensures)
+returns c = shown_by plain_view c.before.match.keys1 _ (ap shown_number c.rename_count.ensures)
 
 returns-2 : tie.Need-returns-2
 unfolding show plain_view
-returns-2 c = shown_by plain_view c.before.match.keys2 _ (ap shown_number c.queue-count.ensures)
+returns-2 c = shown_by plain_view c.before.match.keys2 _ (ap shown_number c.queue_count.ensures)
 
 returns-3 : tie.Need-returns-3
 unfolding show plain_view
-returns-3 c = shown_by plain_view c.before.match.keys3 _ (ap shown_number c.buffer-count.ensures)
+returns-3 c = shown_by plain_view c.before.match.keys3 _ (ap shown_number c.buffer_count.ensures)
 
 returns-4 : tie.Need-returns-4
 unfolding show plain_view
@@ -37,7 +37,7 @@ returns-4 c =
     let s = c.before.before in
     let r = c.before.match.rest in
     let e : s.args.tag ≡ 28 = omega (arith, r.0.0.1, r.0.1, r.1, s.requires.1.0, s.requires.1.1) in
-    shown_by plain_view e _ (ap shown_number c.buffer-capacity.ensures)
+    shown_by plain_view e _ (ap shown_number c.buffer_capacity.ensures)
 
 pub count-waiting-spec : {M : Type 1} → statement M
 count-waiting-spec =

@@ -90,7 +90,7 @@ returns-4 c =
     let s = c.before.before.before.before.before.before.before in
     let r = g.before.before.match.rest in
     let e : s.args.tag ≡ 37 = omega (arith, r.0.0.1, r.0.1, r.1, s.requires.1.0, s.requires.1.1.0) in
-    laid_by (λ t. indexed_view t s.args.index) e _ (ap shown_slot g.buffer-entry.ensures) d.put-slot-answer2.ensures
+    laid_by (λ t. indexed_view t s.args.index) e _ (ap shown_slot g.buffer_entry.ensures) d.put-slot-answer2.ensures
 
 pub show-held-spec : {M : Type 1} → statement M
 show-held-spec =

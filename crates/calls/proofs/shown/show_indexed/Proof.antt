@@ -110,7 +110,7 @@ returns-5 c =
     let s = c.before.before.before.before.before.before.before in
     let r = g.before.before.match.rest in
     let e : s.args.tag ≡ 33 = omega (arith, r.0.0.0.1, r.0.0.1, r.0.1, r.1, s.requires.1.0, s.requires.1.1.0) in
-    laid_by (λ t. indexed_view t s.args.index) e _ g.timeline-row.ensures.answer d.put-row-answer.ensures
+    laid_by (λ t. indexed_view t s.args.index) e _ g.timeline_row.ensures.answer d.put-row-answer.ensures
 
 pub show-indexed-spec : {M : Type 1} → statement M
 show-indexed-spec =

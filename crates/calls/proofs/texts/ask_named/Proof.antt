@@ -1,6 +1,6 @@
 use mathlib.Core.Path.{◌≡◌, ap, ap₂}
 use native.Mathlib.Omega.{arith}
-use Rattle.model.specs.Requests.{unit-name, station-label, rename-register, cell_label, operand_register}
+use Rattle.model.specs.Requests.{unit_name, station_label, rename_register, cell_label, operand_register}
 use Rattle.decoding.specs.Bytes.{byte_at}
 use Rattle.calls.proofs.Which.{here, known, inside-by, number-there}
 use Rattle.calls.proofs.Asks.{asked-at}
@@ -62,7 +62,7 @@ unfolding byte_at
 returns c =
     let d = c.before.before in
     let k = d.before.before in
-    asked-at _ _ k.match.keys1 (ap unit-name k.before.before.number_at.ensures) _ _ d.unit-name.ensures
+    asked-at _ _ k.match.keys1 (ap unit_name k.before.before.number_at.ensures) _ _ d.unit_name.ensures
 
 same-length-2 : tie.Need-same-length-2
 same-length-2 c = search rules
@@ -72,7 +72,7 @@ unfolding byte_at
 returns-2 c =
     let d = c.before.before in
     let k = d.before.before in
-    asked-at _ _ k.match.keys2 (ap station-label k.before.before.number_at.ensures) _ _ d.station-label.ensures
+    asked-at _ _ k.match.keys2 (ap station_label k.before.before.number_at.ensures) _ _ d.station_label.ensures
 
 same-length-3 : tie.Need-same-length-3
 same-length-3 c = search rules
@@ -82,7 +82,7 @@ unfolding byte_at
 returns-3 c =
     let d = c.before.before in
     let k = d.before.before in
-    asked-at _ _ k.match.keys3 (ap rename-register k.before.before.number_at.ensures) _ _ d.rename-register.ensures
+    asked-at _ _ k.match.keys3 (ap rename_register k.before.before.number_at.ensures) _ _ d.rename_register.ensures
 
 same-length-4 : tie.Need-same-length-4
 same-length-4 c = search rules

@@ -1,6 +1,6 @@
 use mathlib.Core.Path.{◌≡◌, refl, ap, ap₂}
 use native.Mathlib.Omega.{arith}
-use Rattle.model.specs.Requests.{slot_text, trace-detail, row-disassembly, stage-name, text_at}
+use Rattle.model.specs.Requests.{slot_text, trace_detail, row_disassembly, stage_name, text_at}
 use Rattle.decoding.specs.Bytes.{byte_at}
 use Rattle.calls.proofs.Which.{here, inside-by, number-there}
 use Rattle.calls.proofs.Asks.{asked-at}
@@ -90,7 +90,7 @@ unfolding byte_at
 returns-3 c =
     let d = c.before.before in
     let k = d.before.before in
-    asked-at _ _ k.match.keys3 (ap trace-detail k.before.before.number_at.ensures) _ _ d.trace-detail.ensures
+    asked-at _ _ k.match.keys3 (ap trace_detail k.before.before.number_at.ensures) _ _ d.trace_detail.ensures
 
 same-length-4 : tie.Need-same-length-4
 same-length-4 c = search rules
@@ -100,7 +100,7 @@ unfolding byte_at
 returns-4 c =
     let d = c.before.before in
     let k = d.before.before in
-    asked-at _ _ k.match.keys4 (ap row-disassembly k.before.before.number_at.ensures) _ _ d.row-disassembly.ensures
+    asked-at _ _ k.match.keys4 (ap row_disassembly k.before.before.number_at.ensures) _ _ d.row_disassembly.ensures
 
 same-length-5 : tie.Need-same-length-5
 same-length-5 c = search rules
@@ -113,7 +113,7 @@ returns-5 c =
     let s = c.before.before.before.before.before.before.before.before.before in
     let r = k.match.rest in
     let e : byte_at s.args.list.now s.args.at ≡ 43 = omega (arith, r.0.0.0.1, r.0.0.1, r.0.1, r.1, s.requires.1.1.0, s.requires.1.1.1) in
-    asked-at _ _ e (ap stage-name k.before.before.number_at.ensures) _ _ (d.stage-name.ensures.0, d.stage-name.ensures.1 _)
+    asked-at _ _ e (ap stage_name k.before.before.number_at.ensures) _ _ (d.stage_name.ensures.0, d.stage_name.ensures.1 _)
 
 pub ask-shown-spec : {M : Type 1} → statement M
 ask-shown-spec =

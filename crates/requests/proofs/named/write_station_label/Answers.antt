@@ -8,7 +8,7 @@ use Rattle.model.specs.Requests.{station_text}
 use Rattle.config.specs.View.{view_machine}
 use Rattle.occupants.proofs.Held.{units-past}
 use Rattle.words.proofs.Shown.{wrote-is, wrote_nothing}
-use Rattle.requests.proofs.Known.{kind_bytes, station-label}
+use Rattle.requests.proofs.Known.{kind_bytes, station_label}
 use borrow.Author.Rules.{rules}
 use Rattle.requests.proofs.named.write_station_label.Goals as goal
 
@@ -18,6 +18,6 @@ returns-then-units-index c = λ g. wrote_nothing _ (omap-none (station_text (vie
 pub returns : goal.returns
 returns c = λ g.
     wrote-is
-    (station-label c.requires.units_ok g _ c.if-units-index.false (view_machine c.args.machine).specs
+    (station_label c.requires.units_ok g _ c.if-units-index.false (view_machine c.args.machine).specs
     (kind_bytes c.spec_name-name.result c.spec_name-name.ensures.fits ∙ c.spec_name-name.ensures.is))
     c.write_label.ensures

@@ -1,5 +1,5 @@
 -- The rows that the window holds have the texts.
-use Rattle.model.specs.Requests.{row-disassembly, text_at}
+use Rattle.model.specs.Requests.{row_disassembly, text_at}
 use Rattle.stalls.specs.View.{view_log}
 use Rattle.board.specs.View.{view_board}
 use Rattle.scoreboard.specs.View.{view_engine}
@@ -12,5 +12,5 @@ pub returns : goal.returns
 unfolding text_at engine-view view_board view_log
 returns c =
     let a = c.args in
-    let t = told (view_engine a.engine) (row-disassembly a.index) (wrote-is (c.disassembly-text.ensures.is a.engine.tracks) c.write_maybe_text.ensures) in
+    let t = told (view_engine a.engine) (row_disassembly a.index) (wrote-is (c.disassembly-text.ensures.is a.engine.tracks) c.write_maybe_text.ensures) in
     record { answer = t.0; buffer = t.1 }
