@@ -1,5 +1,5 @@
 -- What a caller builds an operation with (op.rs): with_length, branching, atomic, writing, also_writes, reading.
-use Rattle.std.specs.Prelude.{◌≡◌, ℕ, true, cond, ltb, List, [], ◌∷◌, ◌++◌, length, take, ltb}
+use Rattle.std.specs.Prelude.{◌≡◌, ℕ, true, cond, ltb, List, [], ◌∷◌, ◌++◌, length, take}
 use Rattle.std.proofs.Math.Option.{Option, some}
 use Rattle.laws.specs.Texts.{Text}
 use Rattle.model.specs.Op.{decoded, info_of, Given, given}
