@@ -23,7 +23,6 @@ use Rattle.registers.specs.View.{view_held}
 use Rattle.flight.specs.declared.pool.DecodedPool.{DecodedPool}
 use Rattle.flight.specs.declared.pool.TextPool.{TextPool}
 use Rattle.flight.specs.View.{carried_at}
-use Rattle.flight.specs.Pool.{legend}
 use Rattle.timeline.specs.declared.WaitForm.{WaitForm}
 use Rattle.timeline.specs.declared.WaitForm.TheVariants.{
   Overwrites,

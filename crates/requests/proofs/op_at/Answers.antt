@@ -4,7 +4,6 @@ use Rattle.model.specs.Views.{oldest_in, stage_ops, stage_op}
 use Rattle.model.specs.Requests.{op_at}
 use Rattle.requests.specs.View.{view_place}
 use Rattle.requests.proofs.Asked.{told-place, shows-kind}
-use borrow.Author.Rules.{rules}
 use Rattle.requests.proofs.op_at.Goals as goal
 
 pub returns-in-Queue : goal.returns-in-Queue

@@ -1,7 +1,7 @@
 -- The text of a listed wait, from the texts behind its numbers.
 use mathlib.Core.Path.{◌≡◌, sym, ◌∙◌}
 use native.Mathlib.Omega.{arith}
-use lib.ListN.{length, length-map}
+use lib.ListN.{length}
 use lib.Seq.{length-take-le}
 use Rattle.registers.specs.View.{view_held}
 use Rattle.registers.proofs.NameTable.{name-count}

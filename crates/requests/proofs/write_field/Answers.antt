@@ -10,7 +10,6 @@ use Rattle.occupants.proofs.Held.{op-some, op-none}
 use Rattle.words.proofs.Shown.{wrote-is, wrote_nothing}
 use Rattle.requests.specs.View.{view_field}
 use borrow.Author.Tests.{not-true, not-false}
-use borrow.Author.Rules.{rules}
 use Rattle.requests.proofs.write_field.Goals as goal
 
 pub returns-then-not-m : goal.returns-then-not-m

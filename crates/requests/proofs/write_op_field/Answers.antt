@@ -8,7 +8,6 @@ use Rattle.flight.specs.Pool.{legend}
 use Rattle.words.proofs.Shown.{wrote-is}
 use Rattle.requests.specs.View.{view_field}
 use Rattle.requests.proofs.Asked.{told-field}
-use borrow.Author.Rules.{rules}
 use Rattle.requests.proofs.write_op_field.Goals as goal
 
 pub returns-in-Disassembly : goal.returns-in-Disassembly

@@ -1,7 +1,6 @@
 -- The register of a claim is known.
 use Rattle.words.proofs.Shown.{wrote-is, wrote_nothing}
 use Rattle.requests.proofs.Known.{claim-there, claim-past}
-use borrow.Author.Rules.{rules}
 use Rattle.requests.proofs.named.write_claim.Goals as goal
 
 pub returns-in-Some : goal.returns-in-Some

@@ -4,11 +4,9 @@ use Rattle.laws.specs.Lists.{nth}
 use Rattle.laws.proofs.Tests.{when_some-none}
 use Rattle.registers.specs.View.{view_held}
 use Rattle.bank.specs.View.{view_units}
-use Rattle.bank.proofs.Steps.{unit_ok}
 use Rattle.occupants.proofs.Held.{units-past}
 use Rattle.words.proofs.Shown.{wrote-is, wrote_nothing}
 use Rattle.requests.proofs.Known.{operand-there, operand-past}
-use borrow.Author.Rules.{rules}
 use Rattle.requests.proofs.named.write_operand.Goals as goal
 
 pub returns-then-units-station : goal.returns-then-units-station

@@ -1,15 +1,11 @@
 -- The name of the unit's kind, and its number.
-use mathlib.Core.Path.{◌≡◌, sym, ◌∙◌}
-use native.Mathlib.Omega.{arith}
-use lib.ListN.{length, length-map}
-use lib.Seq.{length-take-le}
+use mathlib.Core.Path.{◌∙◌}
 use Rattle.laws.proofs.Tests.{omap-none}
 use Rattle.model.specs.Requests.{station_text}
 use Rattle.config.specs.View.{view_machine}
 use Rattle.occupants.proofs.Held.{units-past}
 use Rattle.words.proofs.Shown.{wrote-is, wrote_nothing}
 use Rattle.requests.proofs.Known.{kind_bytes, station_label}
-use borrow.Author.Rules.{rules}
 use Rattle.requests.proofs.named.write_station_label.Goals as goal
 
 pub returns-then-units-index : goal.returns-then-units-index
