@@ -1,20 +1,12 @@
 -- By the checks before its names, by its names, then by `taken`.
-use Prim.Native.Nat.{ℕ}
-use mathlib.Core.Path.{◌≡◌, refl, ◌∙◌}
-use mathlib.Core.Option.{some}
+use mathlib.Core.Path.{refl, ◌∙◌}
 use native.Mathlib.Omega.{arith}
 use borrow.Author.Rules.{rules}
-use Rattle.model.specs.Calls.{fetch, refusal}
-use Rattle.op.specs.View.{view_op}
 use Rattle.checks.proofs.Table.{held}
 use Rattle.tracks.specs.View.{tracks_of}
 use Rattle.slots.specs.View.{units_of}
 use Rattle.board.specs.declared.Board.{Board}
 use Rattle.board.specs.View.{board_of}
-use Rattle.engine.specs.Engine.{Engine}
-use Rattle.engine.specs.View.{view_engine}
-use Rattle.engine.specs.Valid.{Valid}
-use Rattle.fetching.specs.Taking.{given, Holds}
 use Rattle.checks.proofs.Passing.{some_number, no_number, yes-of-not}
 use Rattle.fetching.proofs.Fetches.{operation-fine, refused_first, second, memory-stays}
 use Rattle.fetching.proofs.Laid.{by-own-counts}

@@ -1,5 +1,4 @@
 -- By computing.
-use borrow.Author.Rules.{rules}
 use mathlib.Core.Path.{ap₂}
 use mathlib.Core.Option.{none}
 use mathlib.Core.List.{[], ◌∷◌}

@@ -5,7 +5,6 @@ use mathlib.Core.List.{List}
 use Rattle.model.specs.Calls.{start}
 use Rattle.slots.specs.View.{units_of}
 use Rattle.board.specs.declared.Sequencer.{Sequencer}
-use Rattle.board.specs.declared.Board.{Board}
 use Rattle.board.specs.View.{board_of}
 use Rattle.engine.specs.Engine.{Engine, with_board}
 use Rattle.driving.proofs.Cycles.{Comes, tells, begins, begins-not, settled}
