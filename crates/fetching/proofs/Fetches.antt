@@ -3,15 +3,14 @@ use Prim.Native.Nat.{ℕ, ◌*◌, ◌≤◌, ◌<◌}
 use mathlib.Core.Path.{◌≡◌, refl, sym, ap, ap₂, ◌∙◌}
 use mathlib.Core.Bool.{Bool, true, false, not}
 use mathlib.Core.Logic.{⊎_elim}
-use mathlib.Core.Option.{Option, none, some}
-use mathlib.Core.List.{List, [], ◌∷◌, ◌++◌}
+use mathlib.Core.Option.{none, some}
+use mathlib.Core.List.{List, [], ◌∷◌}
 use native.Mathlib.Omega.{arith}
 use lib.Dec.{eqb, ltb}
 use lib.ListN.{length}
 use borrow.Author.Tests.{eqb-false, ltb-false}
 use Rattle.laws.specs.Numbers.{max64}
-use Rattle.laws.proofs.Tests.{true-or-false, lt-or-ge}
-use Rattle.laws.proofs.Choices.{none-some}
+use Rattle.laws.proofs.Tests.{lt-or-ge}
 use Rattle.model.specs.Timeline.{write_all, open_writes}
 use Rattle.model.specs.Calls.{Check, first_of, fetch, bad_info, too_many, names_with, short_memory, checks, refusal, sets, memory_after}
 use Rattle.op.specs.declared.PipelineOp.{PipelineOp}

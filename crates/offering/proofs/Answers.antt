@@ -15,10 +15,7 @@ use Rattle.model.specs.Op.{Op}
 use Rattle.model.specs.Units.{FunctionalUnit, unit_at}
 use Rattle.model.specs.Write.{resolve_branch}
 use Rattle.model.specs.Views.{OfferView as ModelOffer, offer_view}
-use Rattle.model.specs.Calls.{Check, first_of, bad_text}
-use Rattle.op.specs.declared.Text.{Text as TextBytes}
-use Rattle.op.specs.View.{view_text}
-use Rattle.op.proofs.Texts.{bad-long}
+use Rattle.model.specs.Calls.{Check, first_of}
 use Rattle.checks.proofs.Table.{no_offer}
 use Rattle.registers.specs.View.{claimed as index}
 use Rattle.flight.specs.declared.pool.Decoded.{Decoded}

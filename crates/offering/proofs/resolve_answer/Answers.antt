@@ -1,6 +1,6 @@
 use Rattle.std.proofs.Common.{arith}
 use mathlib.Core.Path.{◌≡◌, sym, ap}
-use mathlib.Core.Logic.{inl, inr, ⊎_elim}
+use mathlib.Core.Logic.{inl, inr}
 use Rattle.laws.proofs.Tests.{and_yes}
 use Rattle.model.specs.Calls.{resolved}
 use Rattle.engine.specs.View.{view_answer}

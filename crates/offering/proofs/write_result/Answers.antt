@@ -1,15 +1,12 @@
-use mathlib.Core.Path.{◌≡◌, refl, sym, subst, ap}
-use mathlib.Core.Bool.{Bool, true, false}
-use mathlib.Core.Logic.{⊎_elim}
+use mathlib.Core.Path.{◌≡◌, refl, sym, subst}
+use mathlib.Core.Bool.{Bool, false}
 use lib.Dec.{T}
 use Rattle.laws.proofs.Choices.{false-T}
 use Rattle.model.specs.Write.{start_cycle}
-use Rattle.model.specs.Calls.{start, retire}
+use Rattle.model.specs.Calls.{retire}
 use Rattle.checks.specs.Numbered.{numbered}
 use Rattle.flight.specs.declared.pool.DecodedPool.{DecodedPool}
-use Rattle.stalls.specs.View.{LogOk}
 use Rattle.board.specs.declared.Board.{Board}
-use Rattle.board.specs.View.{BoardOk}
 use Rattle.board.specs.Promises.{Starts}
 use Rattle.offering.specs.declared.AfterWrite.{AfterWrite}
 use Rattle.engine.specs.View.{view_answer}
