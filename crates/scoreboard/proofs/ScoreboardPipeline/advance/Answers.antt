@@ -1,5 +1,4 @@
 use mathlib.Core.Path.{◌≡◌, sym, subst, ap, ◌∙◌}
-use mathlib.Core.Logic.{⊎_elim}
 use lib.ListN.{length}
 use Rattle.model.specs.Calls.{advance, memory_after}
 use Rattle.op.specs.View.{view_maybe_number}

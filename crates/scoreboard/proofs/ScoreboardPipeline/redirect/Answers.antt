@@ -1,4 +1,4 @@
-use mathlib.Core.Path.{refl, ◌∙◌}
+use mathlib.Core.Path.{refl}
 use Rattle.model.specs.Calls.{calls}
 use Rattle.model.specs.Scoreboard.{reset_to}
 use Rattle.config.specs.View.{view_machine}

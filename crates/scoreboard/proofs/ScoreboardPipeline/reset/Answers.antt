@@ -1,6 +1,5 @@
 use mathlib.Core.Path.{refl, ap, ◌∙◌}
 use mathlib.Core.Bool.{false}
-use mathlib.Core.Logic.{⊎_elim}
 use mathlib.Core.Option.{none}
 use mathlib.Core.List.{[]}
 use native.Mathlib.Omega.{arith}

@@ -1,5 +1,4 @@
 use mathlib.Core.Path.{refl, ap}
-use mathlib.Core.Logic.{⊎_elim}
 use Rattle.model.specs.Scoreboard.{with_noted}
 use Rattle.model.specs.Calls.{checks, refusal, run, reply}
 use Rattle.config.specs.View.{view_machine}
