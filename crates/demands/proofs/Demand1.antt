@@ -1,42 +1,18 @@
 -- Demand 1 over the code, from demand 1 over the model and the contracts.
 use Prim.Native.Nat.{ℕ}
 use mathlib.Core.Path.{◌≡◌, refl, sym, ap, ◌∙◌}
-use mathlib.Core.Bool.{Bool, true, false, false≢true}
 use mathlib.Core.Option.{Option, none, some}
 use mathlib.Core.List.{List}
 use lib.ListN.{length}
 use Rattle.laws.specs.Optional.{when_some}
-use Rattle.laws.specs.Lists.{All}
-use Rattle.laws.proofs.Choices.{none-some, some_inj}
 use Rattle.model.specs.State.{State, new}
-use Rattle.model.specs.Config.{PipelineShape}
-use Rattle.model.specs.Calls.{
-  Answer as ModelAnswer,
-  Call,
-  refused,
-  done,
-  checks,
-  make_checks,
-  make_refusal,
-  refusal,
-  answer,
-  reply,
-  Made,
-  no_machine,
-  made,
-  make,
-  memory_made,
-  make_memory,
-}
-use Rattle.refusals.specs.Refusals.{fails, First, MakeRefusals as Model-making}
-use Rattle.refusals.proofs.Demand1.{demand-1 as model-demand-1, demand-1-making as model-making, taken-checks, made-checks}
+use Rattle.model.specs.Calls.{Call, refused, done, make_refusal, refusal, answer, reply, no_machine, made, make, memory_made, make_memory}
+use Rattle.refusals.proofs.Demand1.{demand-1 as model-demand-1, demand-1-making as model-making, taken-checks}
 use Rattle.engine.specs.declared.Answer.{Answer}
 use Rattle.engine.specs.declared.Answer.TheVariants as a
-use Rattle.scoreboard.specs.declared.Next.{Next}
 use Rattle.scoreboard.specs.View.{pipeline, view_engine}
 use Rattle.engine.specs.View.{view_answer}
-use Rattle.scoreboard.specs.Calls.{Makes, Does}
-use Rattle.demands.specs.Demand1.{Refusals, Demand1, MakeRefusals, Demand1Making}
+use Rattle.demands.specs.Demand1.{Demand1, Demand1Making}
 
 -- Only `Refused` means a refusal.
 is-refused : (x : Answer) (k : ℕ) → view_answer x ≡ refused k → x ≡ a.Refused k

@@ -1,6 +1,6 @@
 -- Demand 1 over cell views and text requests, from demand 1 over the model and their contracts.
 use Prim.Native.Nat.{ℕ, ◌≤◌, ◌<◌}
-use mathlib.Core.Path.{◌≡◌, refl, sym, ap, ap₂, ◌∙◌}
+use mathlib.Core.Path.{◌≡◌, refl, sym, ap₂, ◌∙◌}
 use mathlib.Core.Bool.{Bool, true, false, cond}
 use mathlib.Core.Logic.{⊎_elim}
 use mathlib.Core.Option.{Option, none, some}
@@ -10,7 +10,7 @@ use Rattle.laws.specs.Optional.{when_some}
 use Rattle.laws.specs.Texts.{Text}
 use Rattle.laws.proofs.Tests.{lt-or-ge}
 use Rattle.model.specs.State.{State}
-use Rattle.model.specs.Requests.{Request, text_at, short_for, buffer_with}
+use Rattle.model.specs.Requests.{text_at, short_for, buffer_with}
 use Rattle.model.specs.Calls.{Answer, Call, text, checks, refusal, answer, reply, first_of, buffer_after}
 use Rattle.refusals.proofs.Demand1.{demand-1}
 use Rattle.traces.specs.declared.texts.Written.{Written}

@@ -1,14 +1,12 @@
 -- An engine, written out: the one that a machine declaring nothing is made into. So there are engines of which `Valid` holds.
-use Prim.Native.Nat.{ℕ, zero, suc, ◌<◌}
-use mathlib.Core.Path.{◌≡◌, refl, sym, subst, ap, ◌∙◌}
-use mathlib.Core.Bool.{Bool, true, false, cond, false≢true}
-use mathlib.Core.Logic.{◌⊎◌, inl, inr}
+use Prim.Native.Nat.{ℕ, zero, suc}
+use mathlib.Core.Path.{◌≡◌, refl, sym, subst}
+use mathlib.Core.Bool.{true, false, false≢true}
+use mathlib.Core.Logic.{inr}
 use mathlib.Core.Option.{none}
-use mathlib.Core.List.{List, [], ◌∷◌}
+use mathlib.Core.List.{[], ◌∷◌}
 use native.Mathlib.Omega.{arith}
-use lib.Dec.{eqb}
-use lib.ListN.{length, get_or, replicate}
-use Rattle.laws.specs.Lists.{All, count}
+use lib.ListN.{get_or, replicate}
 use Rattle.laws.proofs.Slices.{All-replicate}
 use Rattle.capability.specs.declared.PipelineInstructionClass.{PipelineInstructionClass}
 use Rattle.capability.specs.declared.PipelineInstructionClass.TheVariants.{Alu, Multiply, Divide, Load, Store, Branch, Jump, System, FloatingPoint, Unknown}
@@ -29,7 +27,7 @@ use Rattle.config.specs.Checks.{nothing_declared}
 use Rattle.registers.specs.View.{views as registers-views, claimed, NameOk}
 use Rattle.flight.specs.declared.MaybeHazard.TheVariants.{Nothing}
 use Rattle.flight.specs.declared.Operands.{Operands}
-use Rattle.flight.specs.View.{flights, read, written, OperandsOk, QueuedOk}
+use Rattle.flight.specs.View.{flights, OperandsOk, QueuedOk}
 use Rattle.flight.specs.Pool.{no_decoded, no_texts, no_bytes, no_name, TextsOk}
 use Rattle.timeline.specs.View.{no_text, first_track, no_rows, view_rows, from, TrackOk, RowTextOk}
 use Rattle.timeline.specs.declared.WaitForm.TheVariants.{Drains}
