@@ -1,16 +1,16 @@
 -- What `forecast` answers, by what was written to `out`.
-use Prim.Native.Nat.{ℕ, zero, suc, ◌+◌, ◌≤◌, ◌<◌}
+use Prim.Native.Nat.{ℕ, ◌≤◌, ◌<◌}
 use mathlib.Core.Path.{◌≡◌, refl, sym, ap, ap₂, ◌∙◌}
 use mathlib.Core.Bool.{Bool, true, false, cond}
-use mathlib.Core.Option.{Option, none, some}
-use mathlib.Core.List.{List, []}
+use mathlib.Core.Option.{none, some}
+use mathlib.Core.List.{List}
 use native.Mathlib.Nat.{zero-add}
 use native.Mathlib.Omega.{arith}
 use lib.Dec.{ltb}
-use lib.ListN.{length, take, drop, replicate, length-replicate}
+use lib.ListN.{length, take, drop}
 use lib.Seq.{take_at}
 use borrow.Author.Tests.{lt-ltb, le-ltb}
-use Rattle.laws.specs.Optional.{when_some, value_or}
+use Rattle.laws.specs.Optional.{when_some}
 use Rattle.laws.specs.Lists.{any}
 use Rattle.laws.specs.Texts.{Text, bytes, utf8}
 use Rattle.laws.proofs.Tests.{cond-lt, cond-ge, when_some-some, when_some-none}
@@ -177,12 +177,8 @@ module _ (input cells out : List ℕ) where
 
 -- ── The page ────────────────────────────────────────────────────────────────
 
-page-least : (m : List ℕ) (k : ℕ) → length m ≡ 524288 → k ≤ 524288 → k ≤ length m
-page-least m k e h = omega (arith, e, h)
-
--- So many bytes fit on an empty page.
-pub page-room : (k : ℕ) → k ≤ 524288 → k ≤ length {A = ℕ} (replicate 524288 0)
-page-room k h = page-least (replicate 524288 0) k (length-replicate {A = ℕ} 524288 0) h
+pub page-room : (m : List ℕ) (k : ℕ) → 524288 ≡ length m → k ≤ 524288 → k ≤ length m
+page-room m k e h = omega (arith, e)
 
 -- What was laid from the front on is the part up to its end.
 pub laid-front : {t : Text} {page page' : List ℕ} {n : ℕ} → length t ≤ length page → Laid 0 t page page' n → take n page' ≡ t

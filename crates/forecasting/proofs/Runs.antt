@@ -1,12 +1,12 @@
 -- What is printed of a run, by how it stands.
-use Prim.Native.Nat.{ℕ, zero, suc, ◌+◌, ◌≤◌}
+use Prim.Native.Nat.{ℕ, zero, suc, ◌≤◌}
 use mathlib.Core.Path.{◌≡◌, refl, ap}
 use mathlib.Core.List.{List, [], ◌++◌}
 use native.Mathlib.Omega.{arith}
 use lib.ListN.{length, length-append}
 use Rattle.laws.specs.Texts.{Text, bytes, utf8, decimal}
 use Rattle.model.specs.State.{Stats}
-use Rattle.model.specs.Forecast.{Run, line_refused, lent_of, rows_text, totals_text, refused_text, printed, cells_left}
+use Rattle.model.specs.Forecast.{line_refused, lent_of, rows_text, totals_text, refused_text, printed, cells_left}
 use Rattle.timeline.specs.View.{view_rows}
 use Rattle.stalls.specs.View.{view_log, view_stats}
 use Rattle.board.specs.View.{view_board}

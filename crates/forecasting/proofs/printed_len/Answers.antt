@@ -8,9 +8,7 @@ use native.Mathlib.Omega.{arith}
 use Rattle.forecasting.specs.View.{view_outcome, bytes_printed}
 use Rattle.forecasting.specs.declared.Outcome.{Outcome}
 use Rattle.forecasting.specs.declared.Outcome.TheVariants as o
-use borrow.Author.Rules.{rules}
-use Rattle.forecasting.proofs.printed_len.Statement.{statement}
-use Rattle.forecasting.proofs.printed_len.Tie as tie
+use Rattle.forecasting.proofs.printed_len.Goals as goal
 
 abbrev Least : Outcome → List ℕ → ℕ → Type 0
 Least a out r = (r ≡ min (bytes_printed (view_outcome a)) (length out)) × ((r ≤ length out) × (r ≡ length (take r out)))
@@ -33,14 +31,11 @@ nothing : {a : Outcome} {k : ℕ} (out : List ℕ) → a ≡ o.Refused k → Lea
 unfolding view_outcome bytes_printed
 nothing {a} out e = let z : bytes_printed (view_outcome a) ≡ 0 = ap (λ x. bytes_printed (view_outcome x)) e in least a 0 out (omega (arith, z))
 
-returns : tie.Need-returns
-returns c = fits c.before.before.before.before.args.out.now c.before.before.answer.given.1 c.if1.true
+pub returns-then-k-out : goal.returns-then-k-out
+returns-then-k-out c = let h = fits c.args.out.now c.in-Written.is c.if-k-out.true in record { count = h.0; most = h.1.0; part = h.1.1 }
 
-returns-2 : tie.Need-returns-2
-returns-2 c = nothing c.before.before.args.out.now c.enum_told.given.1
+pub returns-in-Refused : goal.returns-in-Refused
+returns-in-Refused c = let h = nothing c.args.out.now c.in-Refused.is in record { count = h.0; most = h.1.0; part = h.1.1 }
 
-returns-3 : tie.Need-returns-3
-returns-3 c = cut c.before.before.before.before.args.out.now c.before.before.answer.given.1 c.if1.false
-
-pub printed-len-spec : {M : Type 1} → statement M
-printed-len-spec = tie.close (tie.spec (λ c. search rules) (λ c. search rules) returns returns-2 returns-3)
+pub returns-else-k-out : goal.returns-else-k-out
+returns-else-k-out c = let h = cut c.args.out.now c.in-Written.is c.if-k-out.false in record { count = h.0; most = h.1.0; part = h.1.1 }
