@@ -1,6 +1,5 @@
 -- What `calls_play` answers and leaves, for every list of bytes (docs/CALLS.md).
 use Rattle.std.specs.Prelude.{ℕ, ◌+◌, max, Bool, cond, ◌||◌, List, [], ◌∷◌, ◌++◌, ltb, length, take, drop}
-use Rattle.std.proofs.Math.Option.{Option}
 use Rattle.laws.specs.Optional.{when_some}
 use Rattle.model.specs.Timeline.{splice}
 use Rattle.model.specs.State.{State, new}

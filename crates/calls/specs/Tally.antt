@@ -1,5 +1,5 @@
 -- What a pass over a list tells before anything is touched.
-use Rattle.std.specs.Prelude.{ℕ, true, false, length}
+use Rattle.std.specs.Prelude.{true, false, length}
 use Rattle.std.proofs.Math.Option.{Option, none, some}
 use Rattle.decoding.specs.Script.{Script}
 use Rattle.calls.specs.declared.Tally.{Tally}

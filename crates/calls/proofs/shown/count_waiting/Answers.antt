@@ -1,0 +1,24 @@
+use mathlib.Core.Path.{◌≡◌, ap}
+use native.Mathlib.Omega.{arith}
+use Rattle.model.specs.Calls.{shown_number, show}
+use Rattle.decoding.specs.Calls.{plain_view}
+use Rattle.calls.proofs.Shows.{shown_by}
+use Rattle.calls.proofs.shown.count_waiting.Goals as goal
+
+pub returns-in-25 : goal.returns-in-25
+unfolding show plain_view
+returns-in-25 c = shown_by plain_view c.in-25.is _ (ap shown_number c.rename_count.ensures)
+
+pub returns-in-26 : goal.returns-in-26
+unfolding show plain_view
+returns-in-26 c = shown_by plain_view c.in-26.is _ (ap shown_number c.queue_count.ensures)
+
+pub returns-in-27 : goal.returns-in-27
+unfolding show plain_view
+returns-in-27 c = shown_by plain_view c.in-27.is _ (ap shown_number c.buffer_count.ensures)
+
+pub returns-in_default : goal.returns-in_default
+unfolding show plain_view
+returns-in_default c =
+    let e : c.args.tag ≡ 28 = omega arith in
+    shown_by plain_view e _ (ap shown_number c.buffer_capacity.ensures)
