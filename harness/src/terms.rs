@@ -173,7 +173,7 @@ fn field(field: Field) -> String {
     match field {
         Field::Disassembly => "disassembly".to_string(),
         Field::Destination => "destination".to_string(),
-        Field::Fault => "fault-note".to_string(),
+        Field::Fault => "fault_note".to_string(),
         Field::Source(at) => format!("(source {at})"),
         Field::Write(at) => format!("(write {at})"),
     }

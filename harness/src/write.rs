@@ -118,7 +118,7 @@ const NAMES: [(&str, &[&str]); 8] = [
             "on_offer",
             "disassembly",
             "destination",
-            "fault as fault-note",
+            "fault as fault_note",
             "source",
             "write",
             "status_message",

@@ -2,16 +2,7 @@
 use Rattle.std.specs.Prelude.{ℕ, true, false, List, [], ◌∷◌}
 use Rattle.std.proofs.Math.Option.{none, some}
 use Rattle.laws.specs.Texts.{bytes}
-use Rattle.capability.specs.declared.PipelineInstructionClass.TheVariants.{
-  Alu,
-  Multiply,
-  Divide,
-  Load,
-  Store,
-  Jump,
-  System,
-  FloatingPoint,
-}
+use Rattle.capability.specs.declared.PipelineInstructionClass.TheVariants.{Alu, Multiply, Divide, Load, Store, Jump, System, FloatingPoint}
 use Rattle.model.specs.Config.{timing, unit_spec, PipelineShape, pipeline_shape}
 use Rattle.model.specs.Requests.{
   in_queue,
