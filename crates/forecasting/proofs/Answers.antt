@@ -7,8 +7,8 @@ use mathlib.Core.List.{List}
 use native.Mathlib.Nat.{zero-add}
 use native.Mathlib.Omega.{arith}
 use lib.Dec.{ltb}
-use lib.ListN.{length, take, drop}
-use lib.Seq.{take_at}
+use lib.ListN.{length, take, drop, replicate, length-replicate}
+use lib.Seq.{take_at, length-take-le}
 use borrow.Author.Tests.{lt-ltb, le-ltb}
 use Rattle.laws.specs.Optional.{when_some}
 use Rattle.laws.specs.Lists.{any}
@@ -177,8 +177,22 @@ module _ (input cells out : List ℕ) where
 
 -- ── The page ────────────────────────────────────────────────────────────────
 
-pub page-room : (m : List ℕ) (k : ℕ) → 524288 ≡ length m → k ≤ 524288 → k ≤ length m
-page-room m k e h = omega (arith, e)
+page-least : (m : List ℕ) (k : ℕ) → length m ≡ 524288 → k ≤ 524288 → k ≤ length m
+page-least m k e h = omega (arith, e, h)
+
+-- So many bytes fit on an empty page.
+pub page-room : (k : ℕ) → k ≤ 524288 → k ≤ length {A = ℕ} (replicate 524288 0)
+page-room k h = page-least (replicate 524288 0) k (length-replicate {A = ℕ} 524288 0) h
+
+pub page-count : 524288 ≡ length {A = ℕ} (replicate 524288 0)
+page-count = sym (length-replicate {A = ℕ} 524288 0)
+
+-- A place within the page that was given is one within the page that is left, and the part up to it is as long.
+pub within-page : (page page' : List ℕ) {n k : ℕ} → n ≤ k → k ≤ length page → length page' ≡ length page → n ≤ length page'
+within-page page page' h q s = omega arith
+
+pub part-of-page : (page page' : List ℕ) {n k : ℕ} → n ≤ k → k ≤ length page → length page' ≡ length page → n ≡ length (take n page')
+part-of-page page page' {n} h q s = sym (length-take-le n page' (within-page page page' h q s))
 
 -- What was laid from the front on is the part up to its end.
 pub laid-front : {t : Text} {page page' : List ℕ} {n : ℕ} → length t ≤ length page → Laid 0 t page page' n → take n page' ≡ t

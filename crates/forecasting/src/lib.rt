@@ -45,13 +45,6 @@ fn put_run(page: &mut [u8], g: Going, cells: &[u8]) -> usize
     pages::put_totals(page, n, log.stats)
 }
 
-// A page with room for all that is printed.
-fn blank_page() -> [u8; 524288]
-    ensures { 524288 ≡ length result }
-{
-    [0u8; 524288]
-}
-
 // What was laid down, in `out`.
 fn answered(w: Written) -> Outcome
     ensures { view_outcome result ≡ answered w }
@@ -73,7 +66,7 @@ pub fn forecast(input: &[u8], cells: &mut [u8], out: &mut [u8]) -> Outcome
     if cells.len() < 51200 {
         return Outcome::Refused(13);
     }
-    let mut page = blank_page();
+    let mut page = [0u8; 524288];
     if 65536 < input.len() {
         let n = pages::put_refused(&mut page, 0, 0, 14);
         return answered(write_text(&page[..n], out));

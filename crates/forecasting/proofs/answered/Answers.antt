@@ -1,4 +1,4 @@
--- Case by case.
+-- By what was written.
 use mathlib.Core.Path.{sym, ap}
 use Rattle.forecasting.specs.View.{view_outcome, answered}
 use Rattle.forecasting.proofs.answered.Goals as goal
