@@ -103,7 +103,7 @@ const PLACE: &str = "-- On the bits of the place of the first difference.
 use Prim.Native.Nat.{ℕ, zero, suc, ◌/◌, ◌%◌}
 use mathlib.Core.Path.{◌≡◌, refl}
 use mathlib.Core.Bool.{true, cond}
-use mathlib.Core.Option.{none}
+use Rattle.std.specs.Prelude.{None}
 use mathlib.Core.List.{List, [], ◌∷◌, ◌++◌}
 use lib.Dec.{eqb}
 use lib.ListN.{replicate}
@@ -122,7 +122,7 @@ place (x ∷ xs) (y ∷ ys) = cond (eqb x y) (suc (place xs ys)) 0
 
 cycles : ℕ → ℕ → List Call
 cycles zero lent = []
-cycles (suc n) lent = start ∷ advance none lent ∷ cycles n lent
+cycles (suc n) lent = start ∷ advance None lent ∷ cycles n lent
 
 calls_of : List Step → List Call
 calls_of [] = []

@@ -41,7 +41,7 @@ fn term_list(terms: &[String]) -> String {
 }
 
 fn maybe(term: Option<String>) -> String {
-    term.map_or("none".to_string(), |term| format!("(some {term})"))
+    term.map_or("None".to_string(), |term| format!("(Some {term})"))
 }
 
 /// A text as one argument: quoted, or its bytes.

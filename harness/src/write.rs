@@ -85,9 +85,11 @@ fn files(cases: &[Case], folder: &Path) -> io::Result<()> {
 const MADE: &str = "Made by the harness: see docs/SAMPLES.md.";
 
 /// Names that a list's file may use, by module.
-const NAMES: [(&str, &[&str]); 8] = [
-    ("Rattle.std.specs.Prelude", &["ℕ", "true", "false", "List", "[]", "◌∷◌"]),
-    ("Rattle.std.proofs.Math.Option", &["none", "some"]),
+const NAMES: [(&str, &[&str]); 7] = [
+    (
+        "Rattle.std.specs.Prelude",
+        &["ℕ", "true", "false", "List", "[]", "◌∷◌", "None", "Some"],
+    ),
     ("Rattle.laws.specs.Texts", &["bytes"]),
     (
         "Rattle.capability.specs.declared.PipelineInstructionClass.TheVariants",

@@ -2,11 +2,12 @@
 use Prim.Native.Nat.{ℕ, zero, suc}
 use mathlib.Core.Path.{◌≡◌, refl, sym, ◌∙◌, ap, ap₂, subst, fun_ext}
 use mathlib.Core.Bool.{Bool, true, false, cond, not, ◌&&◌, true≢false}
-use mathlib.Core.Option.{Option, none, some}
+use Rattle.std.specs.Prelude.{Option, None, Some, slice_get, option_map}
 use mathlib.Core.List.{List, [], ◌∷◌, ◌++◌, map}
 use lib.ListN.{length, replicate}
-use Rattle.laws.specs.Lists.{All, all, lists, modify, nth}
-use Rattle.laws.specs.Optional.{value_or, is_none, omap, when_some}
+use Rattle.laws.specs.Lists.{All, lists, modify}
+use Rattle.std.specs.List.{list_all}
+use Rattle.laws.specs.Optional.{value_or, is_none, when_some}
 use Rattle.laws.proofs.Choices.{none-some}
 use Rattle.laws.proofs.Maps.{nth-map}
 use Rattle.capability.specs.declared.Phase.TheVariants.{Write}
@@ -34,11 +35,11 @@ use Rattle.book.proofs.Holds.{advance-is, by-the-book, stopped-is}
 row-tidy : (u : FunctionalUnit) → tidy_row (row_of u) ≡ row_of u
 row-tidy u = go u.busy refl
   where
-    kept : (b : Bool) (q : Option ℕ) → cond (b && is_none q) none q ≡ q
-    kept true none = refl
-    kept false none = refl
-    kept true (some k) = refl
-    kept false (some k) = refl
+    kept : (b : Bool) (q : Option ℕ) → cond (b && is_none q) None q ≡ q
+    kept true None = refl
+    kept false None = refl
+    kept true (Some k) = refl
+    kept false (Some k) = refl
 
     go : (b : Bool) → u.busy ≡ b → tidy_row (row_of u) ≡ row_of u
     go true b =
@@ -64,7 +65,7 @@ idle-rows [] h = refl
 idle-rows (u ∷ us) h = ap₂ {B = List Status} ◌∷◌ (row-idle u h.0) (idle-rows us h.1)
 
 tidy-idle : (n : ℕ) → tidy (idle_tables n) ≡ idle_tables n
-tidy-idle n = ap (λ (l : List Status). book l (λ (r : ℕ). none)) (go n)
+tidy-idle n = ap (λ (l : List Status). book l (λ (r : ℕ). None)) (go n)
   where
     go : (n : ℕ) → map tidy_row (replicate n idle_row) ≡ replicate n idle_row
     go zero = refl
@@ -73,23 +74,23 @@ tidy-idle n = ap (λ (l : List Status). book l (λ (r : ℕ). none)) (go n)
 -- Nothing in flight: the tables of idle units.
 module _ (s : State) where
   pub idle-in-book
-      : s.offer.writing ≡ none → All (λ (u : FunctionalUnit). u.busy ≡ false) s.units
-      → ((r : ℕ) → producer_of s.producer r ≡ none) → InTheBook s
+      : s.offer.writing ≡ None → All (λ (u : FunctionalUnit). u.busy ≡ false) s.units
+      → ((r : ℕ) → producer_of s.producer r ≡ None) → InTheBook s
   idle-in-book n a p =
       let k = length s.units in
       (idle_tables k, idle k, ap₂ book (rows_all s n ∙ idle-rows s.units a) (fun_ext p) ∙ sym (tidy-idle k))
 
-pub unclaimed : (r : ℕ) → producer_of [] r ≡ none
+pub unclaimed : (r : ℕ) → producer_of [] r ≡ None
 unfolding registers lists
 unclaimed r = refl
 
-pub all-unclaimed : (ps : List (Option ℕ)) (r : ℕ) → producer_of (map (λ (p : Option ℕ). none) ps) r ≡ none
+pub all-unclaimed : (ps : List (Option ℕ)) (r : ℕ) → producer_of (map (λ (p : Option ℕ). None) ps) r ≡ None
 unfolding registers
-all-unclaimed ps r = ap (value_or none) (nth-map (λ (p : Option ℕ). none) ps r) ∙ go (nth ps r)
+all-unclaimed ps r = ap (value_or None) (nth-map (λ (p : Option ℕ). None) ps r) ∙ go (slice_get ps r)
   where
-    go : (o : Option (Option ℕ)) → value_or {A = Option ℕ} none (omap {B = Option ℕ} (λ (p : Option ℕ). none) o) ≡ none
-    go none = refl
-    go (some p) = refl
+    go : (o : Option (Option ℕ)) → value_or {A = Option ℕ} None (option_map {U = Option ℕ} (λ (p : Option ℕ). None) o) ≡ None
+    go None = refl
+    go (Some p) = refl
 
 pub all-cleared : (us : List FunctionalUnit) → All (λ (u : FunctionalUnit). u.busy ≡ false) (map clear us)
 unfolding units
@@ -98,7 +99,7 @@ all-cleared (u ∷ us) = (refl, all-cleared us)
 
 -- ── Every unit that may read does ───────────────────────────────────────────
 
-nth-middle : {A : Type 0} (xs : List A) (y : A) (ys : List A) → nth (xs ++ (y ∷ ys)) (length xs) ≡ some y
+nth-middle : {A : Type 0} (xs : List A) (y : A) (ys : List A) → slice_get (xs ++ (y ∷ ys)) (length xs) ≡ Some y
 unfolding lists
 nth-middle [] y ys = refl
 nth-middle (x ∷ xs) y ys = nth-middle xs y ys
@@ -112,7 +113,7 @@ module _ (res : ℕ → Option ℕ) where
   one-reads : (xs : List Status) (y : Status) (ys : List Status) → Reached (book (xs ++ (y ∷ ys)) res) → Reached (book (xs ++ (read_if_ready y ∷ ys)) res)
   one-reads xs y ys h = go y.Busy refl (all_ready y) refl
     where
-      at : {A : Type 0} (d : A) (f : Status → A) → when_some (nth (xs ++ (y ∷ ys)) (length xs)) d f ≡ f y
+      at : {A : Type 0} (d : A) (f : Status → A) → when_some (slice_get (xs ++ (y ∷ ys)) (length xs)) d f ≡ f y
       at d f = ap (λ (o : Option Status). when_some o d f) (nth-middle xs y ys)
 
       kept : (y.Busy && all_ready y) ≡ false → Reached (book (xs ++ (read_if_ready y ∷ ys)) res)
@@ -147,7 +148,7 @@ read-tidy b =
     full : Status → Status
     full u = status true u.Op u.Fi (map tidy_source u.sources)
 
-    ready : (u : Status) → all (λ (x : Source). x.R) (map tidy_source u.sources) ≡ all_ready u
+    ready : (u : Status) → list_all (λ (x : Source). x.R) (map tidy_source u.sources) ≡ all_ready u
     ready u = all-mapped tidy_source (λ (x : Source). x.R) (λ (x : Source). x.R) u.sources (λ x n. refl)
 
     row : (u : Status) → tidy_row (read_if_ready u) ≡ read_if_ready (tidy_row u)
@@ -162,21 +163,21 @@ read-tidy b =
         go true e true f =
             ap₂ (λ (b c : Bool). tidy_row (cond (b && c) (read_row u) u)) e f ∙ tidy-yes (read_row u) e
             ∙ ap (status true u.Op u.Fi)
-            (map-two (λ (x : Source). source x.F none false) tidy_source u.sources
-            ∙ sym (map-two tidy_source (λ (x : Source). source x.F none false) u.sources))
+            (map-two (λ (x : Source). source x.F None false) tidy_source u.sources
+            ∙ sym (map-two tidy_source (λ (x : Source). source x.F None false) u.sources))
             ∙ sym (ap read_if_ready (tidy-yes u e) ∙ ap (λ (c : Bool). cond c (read_row (full u)) (full u)) (ready u ∙ f))
 
 -- ── One call ────────────────────────────────────────────────────────────────
 
 -- What is on offer the book lets write.
 abbrev pub OfferAllowed : State → Type 0
-OfferAllowed s = (i : ℕ) → s.offer.writing ≡ some i → can_write (book_of s) i ≡ true
+OfferAllowed s = (i : ℕ) → s.offer.writing ≡ Some i → can_write (book_of s) i ≡ true
 
 pub record Along (s : State) : Type 0 where
   pub in_book : InTheBook s
   pub allowed : OfferAllowed s
 
-pub along-none : (s : State) → s.offer.writing ≡ none → InTheBook s → Along s
+pub along-none : (s : State) → s.offer.writing ≡ None → InTheBook s → Along s
 along-none s n h = record { in_book = h; allowed = λ i e. none-some i (sym n ∙ e) }
 
 pub along-same : (s t : State) → t.offer.writing ≡ s.offer.writing → book_of t ≡ book_of s → Along s → Along t
@@ -192,18 +193,18 @@ module _ (s : State) (h : Invariant s) (a : Along s) where
   by = by-the-book s h
 
   -- The result on offer is written.
-  module _ (i : ℕ) (w : s.offer.writing ≡ some i) where
+  module _ (i : ℕ) (w : s.offer.writing ≡ Some i) where
     offered-unit : (u : FunctionalUnit) × Holds s i u × (u.phase ≡ Write)
     offered-unit =
         let o = (h.offer_unit i w).1 in
         (o.0, record { there = o.1; in_flight = ap (λ (x : Option ℕ). occupied x i o.0) w ∙ offered-self i o.0 }, o.3)
 
-    row_is : {A : Type 0} (d : A) (f : Status → A) → when_some (nth (book_of s).FU i) d f ≡ f (full-row offered-unit.0)
+    row_is : {A : Type 0} (d : A) (f : Status → A) → when_some (slice_get (book_of s).FU i) d f ≡ f (full-row offered-unit.0)
     row_is d f = ap (λ (o : Option Status). when_some o d f) (holds_row s i offered-unit.0 offered-unit.1)
 
     read-before : has_read (book_of s) i ≡ true
     read-before =
-        row_is false (λ (u : Status). all is_read u.sources)
+        row_is false (λ (u : Status). list_all is_read u.sources)
         ∙ all_from is_read (full-row u).sources
         (λ x n.
         let m = in-mapped (source_of u) u.sources x n in
@@ -216,9 +217,9 @@ module _ (s : State) (h : Invariant s) (a : Along s) where
         wait-off p = ap is_wait offered-unit.2
 
         source-read : (r : ℕ) (q : Option ℕ) → owed offered-unit.0.pending r ≡ q → is_read (source_of offered-unit.0 r) ≡ true
-        source-read r none e =
+        source-read r None e =
             ap₂ (λ (p : Bool) (x : Option ℕ). not (p && is_none x) && is_none x) (wait-off true) e
-        source-read r (some k) e =
+        source-read r (Some k) e =
             let p = (h.waits i offered-unit.0 r k offered-unit.1 (owed-in r k offered-unit.0.pending e)).3 in
             absurd (true≢false (sym (ap is_wait p) ∙ wait-off true))
 
@@ -235,8 +236,8 @@ module _ (s : State) (h : Invariant s) (a : Along s) where
   closed_in = go s.offer.writing refl
     where
       go : (w : Option ℕ) → s.offer.writing ≡ w → InTheBook (closed s)
-      go none e = let (b, r, q) = a.in_book in (b, r, by.unwritten_tables e ∙ q)
-      go (some i) e = written_in i e
+      go None e = let (b, r, q) = a.in_book in (b, r, by.unwritten_tables e ∙ q)
+      go (Some i) e = written_in i e
 
   -- Units read, and at most one operation is issued.
   module _ (redirect : Option ℕ) where

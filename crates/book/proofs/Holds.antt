@@ -2,7 +2,7 @@
 use Prim.Native.Nat.{ℕ}
 use mathlib.Core.Path.{◌≡◌, refl, ◌∙◌, ap}
 use mathlib.Core.Bool.{Bool, true, false, cond}
-use mathlib.Core.Option.{Option, none}
+use Rattle.std.specs.Prelude.{Option, None}
 use Rattle.model.specs.Issue.{issue, issuing}
 use Rattle.model.specs.Scoreboard.{advance, after_issue, before_issue, closed, scoreboard, stops}
 use Rattle.model.specs.State.{State}
@@ -24,7 +24,7 @@ unfolding scoreboard issuing
 after-tables s = refl
 
 module _ (s : State) (h : Invariant s) where
-  pub outside : s.front.in_cycle ≡ false → s.offer.writing ≡ none
+  pub outside : s.front.in_cycle ≡ false → s.offer.writing ≡ None
   outside = no-cycle s (kept_of s h).flight
 
   pub closed-unoffered : Unoffered (closed s)

@@ -3,14 +3,16 @@ use Prim.Native.Nat.{ℕ, zero, suc, ◌+◌, ◌<◌, ◌≤◌}
 use native.Mathlib.Omega.{arith}
 use mathlib.Core.Path.{◌≡◌, refl, sym, ◌∙◌, ap, ap₂, subst, fun_ext}
 use mathlib.Core.Bool.{Bool, true, false, cond, not, ◌&&◌, false≢true, true≢false}
-use mathlib.Core.Option.{Option, none, some}
+use Rattle.std.specs.Prelude.{Option, None, Some, slice_get, is_some, option_map}
 use mathlib.Core.List.{List, [], ◌∷◌, map}
 use mathlib.Core.Logic.{◌⊎◌, inl, inr, ◌↔◌}
 use lib.Dec.{eqb}
 use lib.ListN.{length}
 use borrow.Author.Tests.{eqb-true, eqb-false, eq-eqb}
-use Rattle.laws.specs.Lists.{any, find_at, lists, modify, nth}
-use Rattle.laws.specs.Optional.{is_none, is_some, omap, or_else}
+use Rattle.laws.specs.Lists.{find_at, lists, modify}
+use Rattle.std.specs.List.{list_any}
+use Rattle.laws.specs.Optional.{is_none}
+use Rattle.std.specs.Option.{option_or}
 use Rattle.laws.specs.Texts.{Text}
 use Rattle.laws.proofs.Choices.{none-some, some_inj}
 use Rattle.laws.proofs.Maps.{modify-map}
@@ -40,31 +42,31 @@ use Rattle.book.proofs.Rows.{at_row, in-owed, is-none-of, owed-in, row-busy, row
 -- ── The two tests ───────────────────────────────────────────────────────────
 
 -- No destination is claimed.
-waw-same : (ps : List (Option ℕ)) (ds : List ℕ) → is_none (taken ps ds) ≡ not (any (λ (d : ℕ). is_some (producer_of ps d)) ds)
+waw-same : (ps : List (Option ℕ)) (ds : List ℕ) → is_none (taken ps ds) ≡ not (list_any (λ (d : ℕ). is_some (producer_of ps d)) ds)
 waw-same ps ds = go (taken ps ds) refl
   where
-    go : (t : Option ℕ) → taken ps ds ≡ t → is_none t ≡ not (any (λ (d : ℕ). is_some (producer_of ps d)) ds)
-    go none e =
+    go : (t : Option ℕ) → taken ps ds ≡ t → is_none t ≡ not (list_any (λ (d : ℕ). is_some (producer_of ps d)) ds)
+    go None e =
         sym
         (ap not
         (any-off (λ (d : ℕ). is_some (producer_of ps d)) ds
         (λ d n h. true≢false (sym h ∙ ap is_some (taken_none ps ds e d n)))))
-    go (some r) e =
+    go (Some r) e =
         let w = taken-some ps ds r e in
         sym (ap not (any-from (λ (d : ℕ). is_some (producer_of ps d)) ds r w.0 w.1))
 
 -- A search finds the first.
 find_first
-    : {A : Type 0} (q : ℕ → A → Bool) (i : ℕ) (xs : List A) (k : ℕ) → find_at q i xs ≡ some (i + k) → (j : ℕ) → j < k → (x : A)
-    → nth xs j ≡ some x → q (i + j) x ≡ false
+    : {A : Type 0} (q : ℕ → A → Bool) (i : ℕ) (xs : List A) (k : ℕ) → find_at q i xs ≡ Some (i + k) → (j : ℕ) → j < k → (x : A)
+    → slice_get xs j ≡ Some x → q (i + j) x ≡ false
 unfolding lists
 find_first q i [] k h j l x e = none-some x e
 find_first {A} q i (y ∷ ys) k h j l x e = go (q i y) refl h j l e (λ m f. find_first q (suc i) ys m f)
   where
     go
-        : (b : Bool) → q i y ≡ b → or_else (cond b (some i) none) (find_at q (suc i) ys) ≡ some (i + k) → (j : ℕ) → j < k
-        → nth (y ∷ ys) j ≡ some x
-        → ((m : ℕ) → find_at q (suc i) ys ≡ some (suc i + m) → (j : ℕ) → j < m → (x : A) → nth ys j ≡ some x → q (suc i + j) x ≡ false)
+        : (b : Bool) → q i y ≡ b → option_or (cond b (Some i) None) (find_at q (suc i) ys) ≡ Some (i + k) → (j : ℕ) → j < k
+        → slice_get (y ∷ ys) j ≡ Some x
+        → ((m : ℕ) → find_at q (suc i) ys ≡ Some (suc i + m) → (j : ℕ) → j < m → (x : A) → slice_get ys j ≡ Some x → q (suc i + j) x ≡ false)
         → q (i + j) x ≡ false
     go true f r j l e ih = let z : i ≡ i + k = some_inj i (i + k) r in absurd (omega arith)
     go false f r zero l e ih =
@@ -72,12 +74,12 @@ find_first {A} q i (y ∷ ys) k h j l x e = go (q i y) refl h j l e (λ m f. fin
         ap (λ (m : ℕ). q m x) z ∙ sym (ap (q i) (some_inj y x e)) ∙ f
     go false f r (suc j) l e ih = step k l r
       where
-        step : (k : ℕ) → suc j < k → find_at q (suc i) ys ≡ some (i + k) → q (i + suc j) x ≡ false
+        step : (k : ℕ) → suc j < k → find_at q (suc i) ys ≡ Some (i + k) → q (i + suc j) x ≡ false
         step zero l r = absurd (omega arith)
         step (suc m) l r =
             let z : i + suc m ≡ suc i + m = omega arith in
             let y : suc i + j ≡ i + suc j = omega arith in
-            subst (λ (n : ℕ). q n x ≡ false) y (ih m (r ∙ ap (λ (n : ℕ). some n) z) j (omega arith) x e)
+            subst (λ (n : ℕ). q n x ≡ false) y (ih m (r ∙ ap (λ (n : ℕ). Some n) z) j (omega arith) x e)
 
 -- ── What an issue can come to ───────────────────────────────────────────────
 
@@ -88,8 +90,8 @@ free-for t o = free_unit t.machine.specs t.units o.core.decoded.class
 pub record Open (t : State) (o : Op) (k : ℕ) : Type 0 where
   pub no_branch : t.marks.branch ≡ false
   pub no_system : t.marks.system ≡ false
-  pub unclaimed : taken (learn (looked t o).names t).producer (looked t o).written ≡ none
-  pub free : free-for t o ≡ some k
+  pub unclaimed : taken (learn (looked t o).names t).producer (looked t o).written ≡ None
+  pub free : free-for t o ≡ Some k
 
 pub data Outcome (t : State) (o : Op) (rest : List Op) : Type 0 where
   held
@@ -127,14 +129,14 @@ module _ (t : State) (o : Op) (rest : List Op) (q : t.queue ≡ o ∷ rest) wher
       by-unit
           : t.marks.branch ≡ false → t.marks.system ≡ false → (k : Option ℕ) → taken after_look.producer (looked t o).written ≡ k
           → (f : Option ℕ) → free-for t o ≡ f → Outcome t o rest
-      by-unit b y (some r) e f g =
-          held after_look WriteAfterWrite _ q (look-tables (looked t o).names t) (move (some r) f b y e g)
+      by-unit b y (Some r) e f g =
+          held after_look WriteAfterWrite _ q (look-tables (looked t o).names t) (move (Some r) f b y e g)
           (λ k h. none-some r (sym h.unclaimed ∙ e))
-      by-unit b y none e none g =
-          held after_look FunctionalUnitBusy _ q (look-tables (looked t o).names t) (move none none b y e g)
+      by-unit b y None e None g =
+          held after_look FunctionalUnitBusy _ q (look-tables (looked t o).names t) (move None None b y e g)
           (λ k h. none-some k (sym g ∙ h.free))
-      by-unit b y none e (some k) g =
-          placed k (record { no_branch = b; no_system = y; unclaimed = e; free = g }) (move none (some k) b y e g)
+      by-unit b y None e (Some k) g =
+          placed k (record { no_branch = b; no_system = y; unclaimed = e; free = g }) (move None (Some k) b y e g)
 
       by-branch : (b : Bool) → t.marks.branch ≡ b → (y : Bool) → t.marks.system ≡ y → Outcome t o rest
       by-branch true e y f =
@@ -148,18 +150,18 @@ module _ (t : State) (o : Op) (rest : List Op) (q : t.queue ≡ o ∷ rest) wher
   held_stays : (x : State) (h : PipelineHazardKind) (d : Detail) (i : ℕ) → x.queue ≡ o ∷ rest → issue t ≡ block_issue h d x → Issues t o rest i → ⊥
   unfolding issuing
   held_stays x h d i e k m =
-      let a : modify 0 (with_hazard (some h)) x.queue ≡ rest = ap (λ (s : State). s.queue) (sym k ∙ m) in
-      let l : length (modify 0 (with_hazard (some h)) x.queue) ≡ suc (length rest)
-      = length-modify (with_hazard (some h)) 0 x.queue ∙ ap length e in
+      let a : modify 0 (with_hazard (Some h)) x.queue ≡ rest = ap (λ (s : State). s.queue) (sym k ∙ m) in
+      let l : length (modify 0 (with_hazard (Some h)) x.queue) ≡ suc (length rest)
+      = length-modify (with_hazard (Some h)) 0 x.queue ∙ ap length e in
       let z : length rest ≡ suc (length rest) = sym (ap length a) ∙ l in
       omega arith
 
   -- A free unit tells into which unit an operation went.
-  one_unit : (i k : ℕ) → free-for t o ≡ some k → Issues t o rest i → Issues t o rest k → i ≡ k
+  one_unit : (i k : ℕ) → free-for t o ≡ Some k → Issues t o rest i → Issues t o rest k → i ≡ k
   unfolding issuing units
   one_unit i k f a b = go (eqb k i) refl
     where
-      u : (u : FunctionalUnit) × (nth t.units k ≡ some u) × (u.busy ≡ false) × (u.spec ≡ spec_index t.machine.specs o.core.decoded.class)
+      u : (u : FunctionalUnit) × (slice_get t.units k ≡ Some u) × (u.busy ≡ false) × (u.spec ≡ spec_index t.machine.specs o.core.decoded.class)
       u = free-found t.machine.specs t.units o.core.decoded.class k f
 
       fill-in : FunctionalUnit → FunctionalUnit
@@ -171,14 +173,14 @@ module _ (t : State) (o : Op) (rest : List Op) (q : t.queue ≡ o ∷ rest) wher
       go : (c : Bool) → eqb k i ≡ c → i ≡ k
       go true e = sym (eqb-true k i e)
       go false e =
-          let x : some (fill-in u.0) ≡ some u.0
-          = sym (nth-same fill-in t.units k ∙ ap (omap fill-in) u.1) ∙ ap (λ (l : List FunctionalUnit). nth l k) same_units
+          let x : Some (fill-in u.0) ≡ Some u.0
+          = sym (nth-same fill-in t.units k ∙ ap (option_map fill-in) u.1) ∙ ap (λ (l : List FunctionalUnit). slice_get l k) same_units
           ∙ nth-other fill-in t.units i k (eqb-false k i e) ∙ u.1 in
           absurd (true≢false (ap (λ (v : FunctionalUnit). v.busy) (some_inj (fill-in u.0) u.0 x) ∙ u.2))
 
 -- ── The conditions ──────────────────────────────────────────────────────────
 
-module _ (t : State) (n : t.offer.writing ≡ none) (o : Op) where
+module _ (t : State) (n : t.offer.writing ≡ None) (o : Op) where
   abbrev spec : ℕ
   spec = spec_index t.machine.specs o.core.decoded.class
 
@@ -186,7 +188,7 @@ module _ (t : State) (n : t.offer.writing ≡ none) (o : Op) where
   ds = (looked t o).written
 
   abbrev claimed-in : (ℕ → Option ℕ) → Bool
-  claimed-in f = any (λ (d : ℕ). is_some (f d)) ds
+  claimed-in f = list_any (λ (d : ℕ). is_some (f d)) ds
 
   claims-same : is_none (taken (learn (looked t o).names t).producer ds) ≡ not (claimed-in (producer_of t.producer))
   unfolding issuing
@@ -194,7 +196,7 @@ module _ (t : State) (n : t.offer.writing ≡ none) (o : Op) where
       waw-same (learn (looked t o).names t).producer ds
       ∙ ap (λ (f : ℕ → Option ℕ). not (claimed-in f)) (fun_ext (pad-same t.producer (looked t o).names))
 
-  free-same : (i : ℕ) (u : FunctionalUnit) → nth t.units i ≡ some u → free_at (book_of t) i ≡ not u.busy
+  free-same : (i : ℕ) (u : FunctionalUnit) → slice_get t.units i ≡ Some u → free_at (book_of t) i ≡ not u.busy
   free-same i u e = at_row t n i u false (λ (x : Status). not x.Busy) e ∙ ap not (row-busy u)
 
   -- Where the engine issues, the book may.
@@ -219,7 +221,7 @@ module _ (t : State) (n : t.offer.writing ≡ none) (o : Op) where
   unfolding issuing
   open-lowest k h j l m =
       let z : 0 + k ≡ k = omega arith in
-      let f = find_first (is_free spec) 0 t.units k (h.free ∙ ap (λ (x : ℕ). some x) (sym z)) j l m.0.0 m.0.1 in
+      let f = find_first (is_free spec) 0 t.units k (h.free ∙ ap (λ (x : ℕ). Some x) (sym z)) j l m.0.0 m.0.1 in
       false≢true (sym f ∙ free_of (0 + j) m.0.0 m.0.2 (allowed-unit j m))
 
   -- Where the book may, nothing but a mark holds it up.
@@ -227,14 +229,14 @@ module _ (t : State) (n : t.offer.writing ≡ none) (o : Op) where
   unfolding issuing
   allowed-open b y i m = go (free-for t o) refl
     where
-      clear : taken (learn (looked t o).names t).producer ds ≡ none
+      clear : taken (learn (looked t o).names t).producer ds ≡ None
       clear =
           is-none-of (taken (learn (looked t o).names t).producer ds)
           (claims-same ∙ (and_both (free_at (book_of t) i) (not (claimed-in (producer_of t.producer))) m.1).1)
 
       go : (f : Option ℕ) → free-for t o ≡ f → (k : ℕ) × Open t o k
-      go (some k) e = (k, record { no_branch = b; no_system = y; unclaimed = clear; free = e })
-      go none e =
+      go (Some k) e = (k, record { no_branch = b; no_system = y; unclaimed = clear; free = e })
+      go None e =
           let f = find-miss (is_free spec) 0 t.units e i m.0.0 m.0.1 in
           absurd (false≢true (sym f ∙ free_of (0 + i) m.0.0 m.0.2 (allowed-unit i m)))
 
@@ -287,10 +289,10 @@ owed-on : (ps : List (Option ℕ)) (rs : List ℕ) (x : ℕ) → In x rs → owe
 owed-on ps rs x n = go (producer_of ps x) refl (owed (waits_on ps rs) x) refl
   where
     go : (o : Option ℕ) → producer_of ps x ≡ o → (q : Option ℕ) → owed (waits_on ps rs) x ≡ q → owed (waits_on ps rs) x ≡ producer_of ps x
-    go none e none f = f ∙ sym e
-    go none e (some k) f = none-some k (sym e ∙ (in-waits ps rs x k (owed-in x k (waits_on ps rs) f)).1)
-    go (some k) e none f = absurd (in-owed x k (waits_on ps rs) (waits_in ps rs x k n e) f)
-    go (some k) e (some m) f = f ∙ sym (in-waits ps rs x m (owed-in x m (waits_on ps rs) f)).1
+    go None e None f = f ∙ sym e
+    go None e (Some k) f = none-some k (sym e ∙ (in-waits ps rs x k (owed-in x k (waits_on ps rs) f)).1)
+    go (Some k) e None f = absurd (in-owed x k (waits_on ps rs) (waits_in ps rs x k n e) f)
+    go (Some k) e (Some m) f = f ∙ sym (in-waits ps rs x m (owed-in x m (waits_on ps rs) f)).1
 
 filled
     : (ps : List (Option ℕ)) (r w : List ℕ) (o : Op) (u : FunctionalUnit)
@@ -307,12 +309,12 @@ claimed-result
 claimed-result i ps w fits x = go (in-dec x w)
   where
     go : In x w ⊎ (In x w → ⊥) → producer_of (claim_all i ps w) x ≡ claimed_by i w (producer_of ps) x
-    go (inl n) = claims-in i w ps fits x n ∙ sym (ap (λ (b : Bool). cond b (some i) (producer_of ps x)) (in-elem x w n))
-    go (inr n) = claims-out i w ps x n ∙ sym (ap (λ (b : Bool). cond b (some i) (producer_of ps x)) (out-elem x w n))
+    go (inl n) = claims-in i w ps fits x n ∙ sym (ap (λ (b : Bool). cond b (Some i) (producer_of ps x)) (in-elem x w n))
+    go (inr n) = claims-out i w ps x n ∙ sym (ap (λ (b : Bool). cond b (Some i) (producer_of ps x)) (out-elem x w n))
 
 -- (`fits`: the destinations are known registers, as after a look.)
 placed-tables
-    : (o : Op) (rest : List Op) (r w : List ℕ) (i : ℕ) (s : State) → s.offer.writing ≡ none
+    : (o : Op) (rest : List Op) (r w : List ℕ) (i : ℕ) (s : State) → s.offer.writing ≡ None
     → ((x : ℕ) → In x w → x < length s.producer)
     → book_of (place o rest r w i s) ≡ do_issue i o.core.decoded.class r w (book_of s)
 unfolding issuing
@@ -325,7 +327,7 @@ placed-tables o rest r w i s n fits =
     ∙ ap (modify i (λ (u : Status). status true o.core.decoded.class w (map (fill (producer_of s.producer)) r))) (sym (rows_all s n)))
     (fun_ext (claimed-result i s.producer w fits))
 
-module _ (t : State) (n : t.offer.writing ≡ none) where
+module _ (t : State) (n : t.offer.writing ≡ None) where
   known : (o : Op) (x : ℕ) → In x (looked t o).written → x < length (learn (looked t o).names t).producer
   unfolding issuing
   known o x m =

@@ -3,12 +3,13 @@ use Prim.Native.Nat.{ℕ, zero, suc, ◌+◌}
 use native.Mathlib.Omega.{arith}
 use mathlib.Core.Path.{◌≡◌, refl, sym, ◌∙◌, ap, ap₂, subst}
 use mathlib.Core.Bool.{Bool, true, false, ◌&&◌, ◌||◌, false≢true}
-use mathlib.Core.Option.{some}
+use Rattle.std.specs.Prelude.{Some, slice_get}
 use mathlib.Core.List.{List, [], ◌∷◌, map}
 use mathlib.Core.Logic.{inl, inr}
 use lib.Dec.{eqb}
 use borrow.Author.Tests.{eqb-true, eq-eqb}
-use Rattle.laws.specs.Lists.{all, any, any_at, elem, lists, nth}
+use Rattle.laws.specs.Lists.{any_at, elem, lists}
+use Rattle.std.specs.List.{list_all, list_any}
 use Rattle.laws.proofs.Choices.{none-some, some_inj}
 use Rattle.invariant.specs.Invariant.{In}
 use Rattle.invariant.proofs.Bools.{and_both, or-true}
@@ -28,54 +29,54 @@ not-to false h = refl
 -- ── Membership ──────────────────────────────────────────────────────────────
 
 module _ {A : Type 0} where
-  pub in-nth : (xs : List A) (x : A) → In x xs → (i : ℕ) × (nth xs i ≡ some x)
+  pub in-nth : (xs : List A) (x : A) → In x xs → (i : ℕ) × (slice_get xs i ≡ Some x)
   unfolding lists
   in-nth [] x h = absurd h
-  in-nth (y ∷ xs) x (inl e) = (0, ap (λ (z : A). some z) (sym e))
+  in-nth (y ∷ xs) x (inl e) = (0, ap (λ (z : A). Some z) (sym e))
   in-nth (y ∷ xs) x (inr h) = let w = in-nth xs x h in (suc w.0, w.1)
 
-  pub nth_in : (xs : List A) (k : ℕ) (x : A) → nth xs k ≡ some x → In x xs
+  pub nth_in : (xs : List A) (k : ℕ) (x : A) → slice_get xs k ≡ Some x → In x xs
   unfolding lists
   nth_in [] k x z = none-some x z
   nth_in (y ∷ ys) zero x z = inl (sym (some_inj y x z))
   nth_in (y ∷ ys) (suc k) x z = inr (nth_in ys k x z)
 
   -- Every element passes.
-  pub all_from : (q : A → Bool) (xs : List A) → ((x : A) → In x xs → q x ≡ true) → all q xs ≡ true
+  pub all_from : (q : A → Bool) (xs : List A) → ((x : A) → In x xs → q x ≡ true) → list_all q xs ≡ true
   unfolding lists
   all_from q [] h = refl
   all_from q (x ∷ xs) h = ap₂ ◌&&◌ (h x (inl refl)) (all_from q xs (λ y n. h y (inr n)))
 
-  pub all-to : (q : A → Bool) (xs : List A) → all q xs ≡ true → (x : A) → In x xs → q x ≡ true
+  pub all-to : (q : A → Bool) (xs : List A) → list_all q xs ≡ true → (x : A) → In x xs → q x ≡ true
   unfolding lists
   all-to q [] h x n = absurd n
-  all-to q (y ∷ xs) h x (inl e) = ap q e ∙ (and_both (q y) (all q xs) h).0
-  all-to q (y ∷ xs) h x (inr n) = all-to q xs (and_both (q y) (all q xs) h).1 x n
+  all-to q (y ∷ xs) h x (inl e) = ap q e ∙ (and_both (q y) (list_all q xs) h).0
+  all-to q (y ∷ xs) h x (inr n) = all-to q xs (and_both (q y) (list_all q xs) h).1 x n
 
   -- Some element passes, or none does.
-  pub any-from : (q : A → Bool) (xs : List A) (x : A) → In x xs → q x ≡ true → any q xs ≡ true
+  pub any-from : (q : A → Bool) (xs : List A) (x : A) → In x xs → q x ≡ true → list_any q xs ≡ true
   unfolding lists
   any-from q [] x n h = absurd n
-  any-from q (y ∷ xs) x (inl e) h = ap (λ (b : Bool). b || any q xs) (sym (ap q e) ∙ h)
+  any-from q (y ∷ xs) x (inl e) h = ap (λ (b : Bool). b || list_any q xs) (sym (ap q e) ∙ h)
   any-from q (y ∷ xs) x (inr n) h = ap (λ (b : Bool). q y || b) (any-from q xs x n h) ∙ or-true (q y)
 
-  pub any-to : (q : A → Bool) (xs : List A) → any q xs ≡ true → (x : A) × In x xs × (q x ≡ true)
+  pub any-to : (q : A → Bool) (xs : List A) → list_any q xs ≡ true → (x : A) × In x xs × (q x ≡ true)
   unfolding lists
   any-to q [] h = absurd (false≢true h)
   any-to q (x ∷ xs) h = go (q x) refl h (any-to q xs)
     where
       go
-          : (b : Bool) → q x ≡ b → (b || any q xs) ≡ true → (any q xs ≡ true → (y : A) × In y xs × (q y ≡ true))
+          : (b : Bool) → q x ≡ b → (b || list_any q xs) ≡ true → (list_any q xs ≡ true → (y : A) × In y xs × (q y ≡ true))
           → (y : A) × In y (x ∷ xs) × (q y ≡ true)
       go true e k ih = (x, inl refl, e)
       go false e k ih = let w = ih k in (w.0, inr w.1, w.2)
 
-  pub any-off : (q : A → Bool) (xs : List A) → ((x : A) → In x xs → q x ≡ true → ⊥) → any q xs ≡ false
-  any-off q xs h = not-to (any q xs) (λ e. let w = any-to q xs e in h w.0 w.1 w.2)
+  pub any-off : (q : A → Bool) (xs : List A) → ((x : A) → In x xs → q x ≡ true → ⊥) → list_any q xs ≡ false
+  any-off q xs h = not-to (list_any q xs) (λ e. let w = any-to q xs e in h w.0 w.1 w.2)
 
   -- A place and its element pass, or none does.
   pub any-at-from
-      : (q : ℕ → A → Bool) (k : ℕ) (xs : List A) (n : ℕ) (x : A) → nth xs n ≡ some x → q (k + n) x ≡ true → any_at q k xs ≡ true
+      : (q : ℕ → A → Bool) (k : ℕ) (xs : List A) (n : ℕ) (x : A) → slice_get xs n ≡ Some x → q (k + n) x ≡ true → any_at q k xs ≡ true
   unfolding lists
   any-at-from q k [] n x e h = none-some x e
   any-at-from q k (y ∷ xs) zero x e h =
@@ -86,15 +87,15 @@ module _ {A : Type 0} where
       ap (λ (b : Bool). q k y || b) (any-at-from q (suc k) xs n x e (subst (λ (z : ℕ). q z x ≡ true) m h)) ∙ or-true (q k y)
 
   pub any-at-to
-      : (q : ℕ → A → Bool) (k : ℕ) (xs : List A) → any_at q k xs ≡ true → (n : ℕ) × (x : A) × (nth xs n ≡ some x) × (q (k + n) x ≡ true)
+      : (q : ℕ → A → Bool) (k : ℕ) (xs : List A) → any_at q k xs ≡ true → (n : ℕ) × (x : A) × (slice_get xs n ≡ Some x) × (q (k + n) x ≡ true)
   unfolding lists
   any-at-to q k [] h = absurd (false≢true h)
   any-at-to q k (x ∷ xs) h = go (q k x) refl h (any-at-to q (suc k) xs)
     where
       go
           : (b : Bool) → q k x ≡ b → (b || any_at q (suc k) xs) ≡ true
-          → (any_at q (suc k) xs ≡ true → (n : ℕ) × (y : A) × (nth xs n ≡ some y) × (q (suc k + n) y ≡ true))
-          → (n : ℕ) × (y : A) × (nth (x ∷ xs) n ≡ some y) × (q (k + n) y ≡ true)
+          → (any_at q (suc k) xs ≡ true → (n : ℕ) × (y : A) × (slice_get xs n ≡ Some y) × (q (suc k + n) y ≡ true))
+          → (n : ℕ) × (y : A) × (slice_get (x ∷ xs) n ≡ Some y) × (q (k + n) y ≡ true)
       go true e z ih = let m : k ≡ k + 0 = omega arith in (0, x, refl, subst (λ (i : ℕ). q i x ≡ true) m e)
       go false e z ih =
           let w = ih z in
@@ -102,7 +103,7 @@ module _ {A : Type 0} where
           (suc w.0, w.1, w.2, subst (λ (i : ℕ). q i w.1 ≡ true) m w.3)
 
   -- The same at every place.
-  pub same_places : (xs ys : List A) → ((j : ℕ) → nth xs j ≡ nth ys j) → xs ≡ ys
+  pub same_places : (xs ys : List A) → ((j : ℕ) → slice_get xs j ≡ slice_get ys j) → xs ≡ ys
   unfolding lists
   same_places [] [] h = refl
   same_places [] (y ∷ ys) h = none-some y (h 0)

@@ -3,14 +3,15 @@ use Prim.Native.Nat.{ℕ, suc, ◌+◌, ◌≤◌}
 use native.Mathlib.Omega.{arith}
 use mathlib.Core.Path.{◌≡◌, refl, sym, ◌∙◌, ap, ap₂, subst}
 use mathlib.Core.Bool.{Bool, true, false, cond, ◌&&◌}
-use mathlib.Core.Option.{Option, none, some}
+use Rattle.std.specs.Prelude.{Option, None, Some, slice_get, option_map}
 use mathlib.Core.List.{List, [], ◌∷◌, map}
 use mathlib.Core.Logic.{◌⊎◌, inl, inr, ◌↔◌}
 use lib.Dec.{eqb, ltb}
 use borrow.Author.Tests.{ltb-true, ltb-false}
-use Rattle.laws.specs.Lists.{find_at, lists, nth}
+use Rattle.laws.specs.Lists.{find_at, lists}
 use Rattle.laws.specs.Numbers.{max64}
-use Rattle.laws.specs.Optional.{value_or, omap, or_else}
+use Rattle.laws.specs.Optional.{value_or}
+use Rattle.std.specs.Option.{option_or}
 use Rattle.laws.proofs.Choices.{none-some, some_inj}
 use Rattle.laws.proofs.Maps.{any-at-map, find-map, nth-map}
 use Rattle.capability.specs.Numbers.{numbers, phase_number}
@@ -33,37 +34,37 @@ part u = (is_memory u.class, is_system u.class, seq_of u, u.destinations)
 module _ (us : List FunctionalUnit) where
   unit-part : (i : ℕ) → part (unit_at (map clear_hazard us) i) ≡ part (unit_at us i)
   unfolding units
-  unit-part i = ap (λ (o : Option FunctionalUnit). part (value_or (idle_unit 0 0) o)) (nth-map clear_hazard us i) ∙ go (nth us i)
+  unit-part i = ap (λ (o : Option FunctionalUnit). part (value_or (idle_unit 0 0) o)) (nth-map clear_hazard us i) ∙ go (slice_get us i)
     where
-      go : (o : Option FunctionalUnit) → part (value_or (idle_unit 0 0) (omap clear_hazard o)) ≡ part (value_or (idle_unit 0 0) o)
-      go none = refl
-      go (some u) = refl
+      go : (o : Option FunctionalUnit) → part (value_or (idle_unit 0 0) (option_map clear_hazard o)) ≡ part (value_or (idle_unit 0 0) o)
+      go None = refl
+      go (Some u) = refl
 
   war-cleared : (i : ℕ) (rs : List ℕ) → war_reader (map clear_hazard us) i rs ≡ war_reader us i rs
   unfolding writing units
   war-cleared i [] = refl
   war-cleared i (r ∷ rs) =
-      ap₂ or_else (ap (omap (war r)) (find-map clear_hazard (reads i r) (reads i r) (λ j u. refl) 0 us)) (war-cleared i rs)
+      ap₂ option_or (ap (option_map (war r)) (find-map clear_hazard (reads i r) (reads i r) (λ j u. refl) 0 us)) (war-cleared i rs)
 
   memory-cleared : (i : ℕ) → memory_blocked (map clear_hazard us) i ≡ memory_blocked us i
   unfolding writing units
   memory-cleared i =
-      ap (λ (p : Bool × Bool × ℕ × List ℕ). cond p.0 (omap memory (find_at (older_memory i p.2) 0 (map clear_hazard us))) none) (unit-part i)
-      ∙ ap (λ (o : Option ℕ). cond (is_memory (unit_at us i).class) (omap memory o) none)
+      ap (λ (p : Bool × Bool × ℕ × List ℕ). cond p.0 (option_map memory (find_at (older_memory i p.2) 0 (map clear_hazard us))) None) (unit-part i)
+      ∙ ap (λ (o : Option ℕ). cond (is_memory (unit_at us i).class) (option_map memory o) None)
       (find-map clear_hazard (older_memory i (seq_of (unit_at us i))) (older_memory i (seq_of (unit_at us i))) (λ j u. refl) 0 us)
 
   drain-cleared : (i : ℕ) → drain_blocked (map clear_hazard us) i ≡ drain_blocked us i
   unfolding writing units
   drain-cleared i =
-      ap₂ (λ (a b : Bool). cond (a && b) (some drain) none) (ap (λ (p : Bool × Bool × ℕ × List ℕ). p.1) (unit-part i))
+      ap₂ (λ (a b : Bool). cond (a && b) (Some drain) None) (ap (λ (p : Bool × Bool × ℕ × List ℕ). p.1) (unit-part i))
       (any-at-map clear_hazard (other_busy i) (other_busy i) (λ j u. refl) 0 us)
 
   blocked-cleared : (i : ℕ) → write_blocked (map clear_hazard us) i ≡ write_blocked us i
   unfolding writing
   blocked-cleared i =
-      ap₂ or_else
+      ap₂ option_or
       (ap (λ (p : Bool × Bool × ℕ × List ℕ). war_reader (map clear_hazard us) i p.3) (unit-part i) ∙ war-cleared i (unit_at us i).destinations)
-      (ap₂ or_else (memory-cleared i) (drain-cleared i))
+      (ap₂ option_or (memory-cleared i) (drain-cleared i))
 
   tries-cleared : (qs : List (ℕ × ℕ)) → try_writes (map clear_hazard us) qs ≡ try_writes us qs
   unfolding writing
@@ -144,7 +145,7 @@ ready-sorted i (u ∷ us) = go (in_phase Write u) (ready-sorted (suc i) us)
 
 -- The number of a finished unit is its operation's.
 abbrev Numbered : ℕ → List FunctionalUnit → ℕ → ℕ → Type 0
-Numbered i us n k = (m : ℕ) × (k ≡ i + m) × ((u : FunctionalUnit) × (nth us m ≡ some u) × (n ≡ seq_of u))
+Numbered i us n k = (m : ℕ) × (k ≡ i + m) × ((u : FunctionalUnit) × (slice_get us m ≡ Some u) × (n ≡ seq_of u))
 
 ready-numbered : (i : ℕ) (us : List FunctionalUnit) (n k : ℕ) → In {A = ℕ × ℕ} (n, k) (ready_at i us) → Numbered i us n k
 unfolding writing lists
@@ -172,17 +173,17 @@ ready-numbered i (u ∷ us) n k h = go (ready-numbered (suc i) us n k) (in_phase
 pub record First (us : List FunctionalUnit) (qs : List (ℕ × ℕ)) (i : ℕ) : Type 0 where
   pub number : ℕ
   pub tried : In {A = ℕ × ℕ} (number, i) qs
-  pub oldest : (m j : ℕ) → In {A = ℕ × ℕ} (m, j) qs → write_blocked us j ≡ none → number ≤ m
+  pub oldest : (m j : ℕ) → In {A = ℕ × ℕ} (m, j) qs → write_blocked us j ≡ None → number ≤ m
 
-try-first : (us : List FunctionalUnit) (qs : List (ℕ × ℕ)) (i : ℕ) → Sorted qs → (try_writes us qs).found ≡ some i → First us qs i
+try-first : (us : List FunctionalUnit) (qs : List (ℕ × ℕ)) (i : ℕ) → Sorted qs → (try_writes us qs).found ≡ Some i → First us qs i
 unfolding writing Sorted
 try-first us [] i h e = none-some i e
 try-first us (q ∷ qs) i h e = go (try-first us qs i h.1) (write_blocked us q.1) refl e
   where
     go
-        : ((try_writes us qs).found ≡ some i → First us qs i) → (o : Option Blocked) → write_blocked us q.1 ≡ o
-        → (try_one q.1 o (try_writes us qs)).found ≡ some i → First us (q ∷ qs) i
-    go ih none f r =
+        : ((try_writes us qs).found ≡ Some i → First us qs i) → (o : Option Blocked) → write_blocked us q.1 ≡ o
+        → (try_one q.1 o (try_writes us qs)).found ≡ Some i → First us (q ∷ qs) i
+    go ih None f r =
         record {
           number = q.0;
           tried = inl (ap (λ (m : ℕ). (q.0, m)) (sym (some_inj q.1 i r)));
@@ -192,18 +193,18 @@ try-first us (q ∷ qs) i h e = go (try-first us qs i h.1) (write_blocked us q.1
         at : (m j : ℕ) → In {A = ℕ × ℕ} (m, j) (q ∷ qs) → q.0 ≤ m
         at m j (inl z) = let a : m ≡ q.0 = ap (λ (y : ℕ × ℕ). y.0) z in omega arith
         at m j (inr n) = h.0 (m, j) n
-    go ih (some b) f r =
+    go ih (Some b) f r =
         let w = ih r in
         record { number = w.number; tried = inr w.tried; oldest = λ m j n c. at w m j n c }
       where
-        at : (w : First us qs i) (m j : ℕ) → In {A = ℕ × ℕ} (m, j) (q ∷ qs) → write_blocked us j ≡ none → w.number ≤ m
+        at : (w : First us qs i) (m j : ℕ) → In {A = ℕ × ℕ} (m, j) (q ∷ qs) → write_blocked us j ≡ None → w.number ≤ m
         at w m j (inl z) c =
             none-some b (sym c ∙ ap (write_blocked us) (ap (λ (y : ℕ × ℕ). y.1) z) ∙ f)
         at w m j (inr n) c = w.oldest m j n c
 
 -- ── A start ─────────────────────────────────────────────────────────────────
 
-module _ (s : State) (h : Invariant s) (n : s.offer.writing ≡ none) where
+module _ (s : State) (h : Invariant s) (n : s.offer.writing ≡ None) where
   finished-in : (j : ℕ) (v : FunctionalUnit) → Writable s j v → In {A = ℕ × ℕ} (v.op.core.seq, j) (ready_at 0 s.units)
   unfolding units numbers
   finished-in j v w =
@@ -214,7 +215,7 @@ module _ (s : State) (h : Invariant s) (n : s.offer.writing ≡ none) where
       subst (λ (x : ℕ × ℕ). In x (ready_at 0 s.units)) (ap₂ (λ (a c : ℕ). (a, c)) k z) (in-ready 0 s.units j v w.holds.there p)
 
   found-writable
-      : (i : ℕ) → (writable_unit s.units).found ≡ some i
+      : (i : ℕ) → (writable_unit s.units).found ≡ Some i
       → (u : FunctionalUnit) × Writable s i u × ((j : ℕ) (v : FunctionalUnit) → Writable s j v → u.op.core.seq ≤ v.op.core.seq)
   unfolding writing units
   found-writable i e =
@@ -224,7 +225,7 @@ module _ (s : State) (h : Invariant s) (n : s.offer.writing ≡ none) where
       let t = try-first s.units (ready_at 0 s.units) i (ready-sorted 0 s.units) e in
       let a = ready-numbered 0 s.units t.number i t.tried in
       let z : a.0 ≡ i = omega (arith, a.1) in
-      let same : a.2.0 ≡ u = some_inj a.2.0 u (sym a.2.1 ∙ ap (nth s.units) z ∙ f.0.1) in
+      let same : a.2.0 ≡ u = some_inj a.2.0 u (sym a.2.1 ∙ ap (slice_get s.units) z ∙ f.0.1) in
       let m : t.number ≡ u.op.core.seq
       = a.2.2 ∙ ap seq_of same ∙ ap (λ (c : Bool). cond c u.op.core.seq max64) f.0.2 in (
         u,
@@ -236,7 +237,7 @@ module _ (s : State) (h : Invariant s) (n : s.offer.writing ≡ none) where
 
   pub offers-same
       : (i : ℕ)
-      → ((start_cycle s).offer.writing ≡ some i)
+      → ((start_cycle s).offer.writing ≡ Some i)
       ↔ ((u : FunctionalUnit) × Writable s i u × ((j : ℕ) (v : FunctionalUnit) → Writable s j v → u.op.core.seq ≤ v.op.core.seq))
   unfolding writing
   offers-same i = (
@@ -248,5 +249,5 @@ module _ (s : State) (h : Invariant s) (n : s.offer.writing ≡ none) where
         let lo = k.2 i u w.1 in
         let up = w.2 a.0 k.0 k.1 in
         let z : a.0 ≡ i = h.number_distinct a.0 i k.0 u k.1.holds w.1.holds (omega arith) in
-        start-found s ∙ a.1 ∙ ap (λ (x : ℕ). some x) z),
+        start-found s ∙ a.1 ∙ ap (λ (x : ℕ). Some x) z),
   )

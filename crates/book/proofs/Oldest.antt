@@ -4,7 +4,7 @@ use Prim.Native.Nat.{ℕ, ◌≤◌, ◌<◌}
 use native.Mathlib.Omega.{arith}
 use mathlib.Core.Path.{◌≡◌, refl, sym, subst}
 use mathlib.Core.Bool.{true}
-use mathlib.Core.Option.{none, some}
+use Rattle.std.specs.Prelude.{None, Some}
 use mathlib.Core.List.{List, [], ◌∷◌}
 use mathlib.Core.Logic.{◌⊎◌, inl, inr}
 use Rattle.capability.specs.declared.Phase.TheVariants.{Write}
@@ -24,7 +24,7 @@ use Rattle.book.proofs.Rows.{holds-one, in-owed}
 module _
     (s : State)
     (h : Invariant s)
-    (n : s.offer.writing ≡ none)
+    (n : s.offer.writing ≡ None)
     (i : ℕ)
     (u : FunctionalUnit)
     (held : Holds s i u)
@@ -60,7 +60,7 @@ module _
         let b = least j v k in
         h.number_distinct j i v u k held (omega arith)
 
-    pub oldest-unblocked : write_blocked s.units i ≡ none
+    pub oldest-unblocked : write_blocked s.units i ≡ None
     oldest-unblocked = unblocked s n i u held unread (λ e j v k m. least j v k) alone
 
     pub oldest-writable : u.phase ≡ Write → Writable s i u
@@ -73,7 +73,7 @@ module _
           drained = alone;
         }
 
-    pub oldest-offered : u.phase ≡ Write → (start_cycle s).offer.writing ≡ some i
+    pub oldest-offered : u.phase ≡ Write → (start_cycle s).offer.writing ≡ Some i
     oldest-offered p = (offers-same s h n i).1 (u, oldest-writable p, (λ j v w. least j v w.holds))
 
 pub oldest-unheld : OldestUnheld

@@ -2,12 +2,13 @@
 use Prim.Native.Nat.{ℕ}
 use mathlib.Core.Path.{◌≡◌, refl, sym, ◌∙◌, ap, ap₂, subst}
 use mathlib.Core.Bool.{Bool, true, false, cond, ◌&&◌, false≢true, true≢false}
-use mathlib.Core.Option.{Option, none, some}
+use Rattle.std.specs.Prelude.{Option, None, Some, slice_get, option_map}
 use mathlib.Core.List.{List, [], ◌∷◌, map}
 use mathlib.Core.Logic.{inl, ◌↔◌}
 use lib.Dec.{eqb}
-use Rattle.laws.specs.Lists.{all, is_empty, lists, nth}
-use Rattle.laws.specs.Optional.{value_or, is_none, omap}
+use Rattle.laws.specs.Lists.{is_empty, lists}
+use Rattle.std.specs.List.{list_all}
+use Rattle.laws.specs.Optional.{value_or, is_none}
 use Rattle.laws.proofs.Maps.{nth-map}
 use Rattle.capability.specs.Numbers.{numbers, phase_number}
 use Rattle.capability.specs.declared.Phase.{Phase}
@@ -78,11 +79,11 @@ empty-waits [] h = refl
 empty-waits (w ∷ ws) h = absurd (false≢true h)
 
 -- In phase Wait: no wait is left exactly where each R is set.
-ready-same : (u : FunctionalUnit) → u.phase ≡ Wait → Own u → is_empty u.pending ≡ all (λ (x : Source). x.R) (map (source_of u) u.sources)
+ready-same : (u : FunctionalUnit) → u.phase ≡ Wait → Own u → is_empty u.pending ≡ list_all (λ (x : Source). x.R) (map (source_of u) u.sources)
 unfolding lists views
-ready-same u p own = bool_same (is_empty u.pending) (all (λ (x : Source). x.R) (map (source_of u) u.sources)) forth (back u.pending refl)
+ready-same u p own = bool_same (is_empty u.pending) (list_all (λ (x : Source). x.R) (map (source_of u) u.sources)) forth (back u.pending refl)
   where
-    forth : is_empty u.pending ≡ true → all (λ (x : Source). x.R) (map (source_of u) u.sources) ≡ true
+    forth : is_empty u.pending ≡ true → list_all (λ (x : Source). x.R) (map (source_of u) u.sources) ≡ true
     forth e =
         all_from (λ (x : Source). x.R) (map (source_of u) u.sources)
         (λ x n.
@@ -91,7 +92,7 @@ ready-same u p own = bool_same (is_empty u.pending) (all (λ (x : Source). x.R) 
         ∙ ap₂ (λ (q : Phase) (ws : List (ℕ × ℕ)). is_wait q && is_none (owed ws w.0)) p (empty-waits u.pending e))
 
     back
-        : (ws : List (ℕ × ℕ)) → u.pending ≡ ws → all (λ (x : Source). x.R) (map (source_of u) u.sources) ≡ true
+        : (ws : List (ℕ × ℕ)) → u.pending ≡ ws → list_all (λ (x : Source). x.R) (map (source_of u) u.sources) ≡ true
         → is_empty u.pending ≡ true
     back [] e h = ap is_empty e
     back (w ∷ ws) e h =
@@ -134,7 +135,7 @@ past-read u b p = ap read_if_ready (row-full u b) ∙ go u.sources ∙ sym (row-
     go (x ∷ l) =
         ap
         (λ (c : Bool).
-        cond ((c && is_none (owed u.pending x)) && all (λ (y : Source). y.R) (map (source_of u) l))
+        cond ((c && is_none (owed u.pending x)) && list_all (λ (y : Source). y.R) (map (source_of u) l))
         (read_row (status true u.class u.destinations (map (source_of u) (x ∷ l))))
         (status true u.class u.destinations (map (source_of u) (x ∷ l))))
         p
@@ -163,9 +164,9 @@ wait-read u b p own = go (is_empty u.pending) refl ∙ sym (ap read_if_ready (ro
     go true e =
         full Read
         ∙ ap (status true u.class u.destinations)
-        (map-in (λ (x : ℕ). source x (owed u.pending x) false) (λ (x : ℕ). source x none false) u.sources
+        (map-in (λ (x : ℕ). source x (owed u.pending x) false) (λ (x : ℕ). source x None false) u.sources
         (λ x n. ap (λ (ws : List (ℕ × ℕ)). source x (owed ws x) false) (empty-waits u.pending e))
-        ∙ sym (map-two (source_of u) (λ (x : Source). source x.F none false) u.sources))
+        ∙ sym (map-two (source_of u) (λ (x : Source). source x.F None false) u.sources))
         ∙ sym
         (ap
         (λ (c : Bool).
@@ -206,31 +207,31 @@ moved_row u own = go u.busy refl
 -- ── Every unit of an engine without an offer ────────────────────────────────
 
 module _ (t : State) (c : Unoffered t) where
-  own_at : (j : ℕ) (u : FunctionalUnit) → nth t.units j ≡ some u → u.busy ≡ true → Own u
+  own_at : (j : ℕ) (u : FunctionalUnit) → slice_get t.units j ≡ Some u → u.busy ≡ true → Own u
   own_at j u e b r k n =
       (c.core.waits j (entry u) r k
-      (ap (λ (x : Option ℕ). entry_at x j (nth t.units j)) c.no_offer ∙ ap (entry_at none j) e
-      ∙ entry-held none j u (or-false u.busy ∙ b))
+      (ap (λ (x : Option ℕ). entry_at x j (slice_get t.units j)) c.no_offer ∙ ap (entry_at None j) e
+      ∙ entry-held None j u (or-false u.busy ∙ b))
       n
       ).0
 
   moved-units : (r : Option ℕ) → (before_issue r t).units ≡ map moved t.units
   unfolding scoreboard issuing
-  moved-units none = three
+  moved-units None = three
     where
       three : map read_one (map begin (map tick t.units)) ≡ map moved t.units
       three = ap (map read_one) (map-two tick begin t.units) ∙ map-two (λ u. begin (tick u)) read_one t.units
-  moved-units (some k) = ap (map read_one) (map-two tick begin t.units) ∙ map-two (λ u. begin (tick u)) read_one t.units
+  moved-units (Some k) = ap (map read_one) (map-two tick begin t.units) ∙ map-two (λ u. begin (tick u)) read_one t.units
 
-  before-offer : (r : Option ℕ) → (before_issue r t).offer.writing ≡ none
+  before-offer : (r : Option ℕ) → (before_issue r t).offer.writing ≡ None
   unfolding scoreboard issuing
-  before-offer none = c.no_offer
-  before-offer (some k) = c.no_offer
+  before-offer None = c.no_offer
+  before-offer (Some k) = c.no_offer
 
   before-result : (r : Option ℕ) → (book_of (before_issue r t)).Result ≡ (book_of t).Result
   unfolding scoreboard issuing
-  before-result none = refl
-  before-result (some k) = refl
+  before-result None = refl
+  before-result (Some k) = refl
 
   pub reads-tables : (r : Option ℕ) → book_of (before_issue r t) ≡ all_read (book_of t)
   reads-tables r =
@@ -243,7 +244,7 @@ module _ (t : State) (c : Unoffered t) where
       (before-result r)
 
   pub reads_same
-      : (r : Option ℕ) (i : ℕ) (u : FunctionalUnit) → nth t.units i ≡ some u → u.busy ≡ true
+      : (r : Option ℕ) (i : ℕ) (u : FunctionalUnit) → slice_get t.units i ≡ Some u → u.busy ≡ true
       → ((unit_at (before_issue r t).units i).phase ≡ Read) ↔ ((u.phase ≡ Wait) × (can_read (book_of t) i ≡ true))
   unfolding units numbers
   reads_same r i u e b = (
@@ -253,8 +254,8 @@ module _ (t : State) (c : Unoffered t) where
     where
       at : unit_at (before_issue r t).units i ≡ moved u
       at =
-          ap (λ (l : List FunctionalUnit). value_or (idle_unit 0 0) (nth l i)) (moved-units r)
-          ∙ ap (value_or (idle_unit 0 0)) (nth-map moved t.units i ∙ ap (omap moved) e)
+          ap (λ (l : List FunctionalUnit). value_or (idle_unit 0 0) (slice_get l i)) (moved-units r)
+          ∙ ap (value_or (idle_unit 0 0)) (nth-map moved t.units i ∙ ap (option_map moved) e)
 
       after : (unit_at (before_issue r t).units i).phase ≡ next-phase u.phase (eqb u.op.core.cycles_left 0) (is_empty u.pending)
       after = ap (λ (v : FunctionalUnit). v.phase) at ∙ moved-phase u b

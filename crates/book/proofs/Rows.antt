@@ -2,13 +2,14 @@
 use Prim.Native.Nat.{ℕ}
 use mathlib.Core.Path.{◌≡◌, refl, sym, ◌∙◌, ap, ap₂, subst}
 use mathlib.Core.Bool.{Bool, true, false, cond, not, ◌||◌, false≢true}
-use mathlib.Core.Option.{Option, none, some}
+use Rattle.std.specs.Prelude.{Option, None, Some, slice_get, is_some, option_map}
 use mathlib.Core.List.{List, [], ◌∷◌, map}
 use mathlib.Core.Logic.{inl, inr}
 use lib.Dec.{eqb}
 use borrow.Author.Tests.{eqb-true, eqb-false, eq-eqb}
-use Rattle.laws.specs.Lists.{any, lists, modify, nth}
-use Rattle.laws.specs.Optional.{is_none, is_some, omap, when_some}
+use Rattle.laws.specs.Lists.{lists, modify}
+use Rattle.std.specs.List.{list_any}
+use Rattle.laws.specs.Optional.{is_none, when_some}
 use Rattle.laws.proofs.Choices.{none-some, some_inj}
 use Rattle.laws.proofs.Maps.{nth-map}
 use Rattle.capability.specs.declared.Phase.{Phase}
@@ -34,45 +35,45 @@ is_wait-of Write h = absurd (false≢true h)
 
 -- ── Waits as Q ──────────────────────────────────────────────────────────────
 
-pub waits-owed : (r : ℕ) (ws : List (ℕ × ℕ)) → any (λ (p : ℕ × ℕ). eqb p.0 r) ws ≡ is_some (owed ws r)
+pub waits-owed : (r : ℕ) (ws : List (ℕ × ℕ)) → list_any (λ (p : ℕ × ℕ). eqb p.0 r) ws ≡ is_some (owed ws r)
 unfolding views lists
 waits-owed r [] = refl
 waits-owed r (w ∷ ws) = go (eqb w.0 r) (waits-owed r ws)
   where
     go
-        : (b : Bool) → any (λ (p : ℕ × ℕ). eqb p.0 r) ws ≡ is_some (owed ws r)
-        → (b || any (λ (p : ℕ × ℕ). eqb p.0 r) ws) ≡ is_some (cond b (some w.1) (owed ws r))
+        : (b : Bool) → list_any (λ (p : ℕ × ℕ). eqb p.0 r) ws ≡ is_some (owed ws r)
+        → (b || list_any (λ (p : ℕ × ℕ). eqb p.0 r) ws) ≡ is_some (cond b (Some w.1) (owed ws r))
     go true h = refl
     go false h = h
 
 pub not_some : {A : Type 0} (o : Option A) → not (is_some o) ≡ is_none o
-not_some none = refl
-not_some (some x) = refl
+not_some None = refl
+not_some (Some x) = refl
 
-pub is-none-of : {A : Type 0} (o : Option A) → is_none o ≡ true → o ≡ none
-is-none-of none h = refl
-is-none-of (some x) h = absurd (false≢true h)
+pub is-none-of : {A : Type 0} (o : Option A) → is_none o ≡ true → o ≡ None
+is-none-of None h = refl
+is-none-of (Some x) h = absurd (false≢true h)
 
-pub owed-in : (r k : ℕ) (ws : List (ℕ × ℕ)) → owed ws r ≡ some k → In {A = ℕ × ℕ} (r, k) ws
+pub owed-in : (r k : ℕ) (ws : List (ℕ × ℕ)) → owed ws r ≡ Some k → In {A = ℕ × ℕ} (r, k) ws
 unfolding views
 owed-in r k [] h = none-some k h
 owed-in r k (w ∷ ws) h = go (owed-in r k ws) (eqb w.0 r) refl h
   where
     go
-        : (owed ws r ≡ some k → In {A = ℕ × ℕ} (r, k) ws) → (b : Bool) → eqb w.0 r ≡ b → cond b (some w.1) (owed ws r) ≡ some k
+        : (owed ws r ≡ Some k → In {A = ℕ × ℕ} (r, k) ws) → (b : Bool) → eqb w.0 r ≡ b → cond b (Some w.1) (owed ws r) ≡ Some k
         → In {A = ℕ × ℕ} (r, k) (w ∷ ws)
     go ih true e z = inl (ap₂ (λ (a b : ℕ). (a, b)) (sym (eqb-true w.0 r e)) (sym (some_inj w.1 k z)))
     go ih false e z = inr (ih z)
 
-pub in-owed : (r k : ℕ) (ws : List (ℕ × ℕ)) → In {A = ℕ × ℕ} (r, k) ws → owed ws r ≡ none → ⊥
+pub in-owed : (r k : ℕ) (ws : List (ℕ × ℕ)) → In {A = ℕ × ℕ} (r, k) ws → owed ws r ≡ None → ⊥
 unfolding views
 in-owed r k [] n h = n
 in-owed r k (w ∷ ws) (inl e) h =
     let t : eqb w.0 r ≡ true = eq-eqb w.0 r (sym (ap (λ (z : ℕ × ℕ). z.0) e)) in
-    none-some w.1 (sym h ∙ ap (λ (b : Bool). cond b (some w.1) (owed ws r)) t)
+    none-some w.1 (sym h ∙ ap (λ (b : Bool). cond b (Some w.1) (owed ws r)) t)
 in-owed r k (w ∷ ws) (inr n) h = go (in-owed r k ws n) (eqb w.0 r) h
   where
-    go : (owed ws r ≡ none → ⊥) → (b : Bool) → cond b (some w.1) (owed ws r) ≡ none → ⊥
+    go : (owed ws r ≡ None → ⊥) → (b : Bool) → cond b (Some w.1) (owed ws r) ≡ None → ⊥
     go ih true z = none-some w.1 (sym z)
     go ih false z = ih z
 
@@ -96,7 +97,7 @@ row-busy u = go u.busy
 
 -- ── Tables of an engine without an offer ────────────────────────────────────
 
-module _ (s : State) (n : s.offer.writing ≡ none) where
+module _ (s : State) (n : s.offer.writing ≡ None) where
   pub shown-all : shown_units s ≡ s.units
   unfolding writing
   shown-all = ap (λ (w : Option ℕ). put_back w s.units) n
@@ -104,15 +105,15 @@ module _ (s : State) (n : s.offer.writing ≡ none) where
   pub rows_all : (book_of s).FU ≡ map row_of s.units
   rows_all = ap (map row_of) shown-all
 
-  pub row_at : (i : ℕ) → nth (book_of s).FU i ≡ omap row_of (nth s.units i)
-  row_at i = ap (λ (l : List Status). nth l i) rows_all ∙ nth-map row_of s.units i
+  pub row_at : (i : ℕ) → slice_get (book_of s).FU i ≡ option_map row_of (slice_get s.units i)
+  row_at i = ap (λ (l : List Status). slice_get l i) rows_all ∙ nth-map row_of s.units i
 
-  pub row-there : (i : ℕ) (u : FunctionalUnit) → nth s.units i ≡ some u → nth (book_of s).FU i ≡ some (row_of u)
-  row-there i u e = row_at i ∙ ap (omap row_of) e
+  pub row-there : (i : ℕ) (u : FunctionalUnit) → slice_get s.units i ≡ Some u → slice_get (book_of s).FU i ≡ Some (row_of u)
+  row-there i u e = row_at i ∙ ap (option_map row_of) e
 
   pub at_row
-      : {A : Type 0} (i : ℕ) (u : FunctionalUnit) (d : A) (f : Status → A) → nth s.units i ≡ some u
-      → when_some (nth (book_of s).FU i) d f ≡ f (row_of u)
+      : {A : Type 0} (i : ℕ) (u : FunctionalUnit) (d : A) (f : Status → A) → slice_get s.units i ≡ Some u
+      → when_some (slice_get (book_of s).FU i) d f ≡ f (row_of u)
   at_row {A} i u d f e = ap (λ (o : Option Status). when_some o d f) (row-there i u e)
 
 -- ── Tables of any engine: a row that is Busy is that of an operation in flight ─
@@ -126,48 +127,48 @@ module _ (s : State) where
   abbrev as-shown : ℕ → FunctionalUnit → FunctionalUnit
   as-shown i u = with_busy (occupied s.offer.writing i u) u
 
-  shown-at : (i : ℕ) → nth (shown_units s) i ≡ omap (as-shown i) (nth s.units i)
+  shown-at : (i : ℕ) → slice_get (shown_units s) i ≡ option_map (as-shown i) (slice_get s.units i)
   unfolding writing
   shown-at i = by-offer s.offer.writing
     where
-      same : (b : FunctionalUnit → Bool) (o : Option FunctionalUnit) → ((u : FunctionalUnit) → b u ≡ u.busy) → o ≡ omap (λ (u : FunctionalUnit). with_busy (b u) u) o
-      same b none h = refl
-      same b (some u) h = ap (λ (c : Bool). some (with_busy c u)) (sym (h u))
+      same : (b : FunctionalUnit → Bool) (o : Option FunctionalUnit) → ((u : FunctionalUnit) → b u ≡ u.busy) → o ≡ option_map (λ (u : FunctionalUnit). with_busy (b u) u) o
+      same b None h = refl
+      same b (Some u) h = ap (λ (c : Bool). Some (with_busy c u)) (sym (h u))
 
-      back : (o : Option FunctionalUnit) → omap (with_busy true) o ≡ omap (λ (u : FunctionalUnit). with_busy (occupied (some i) i u) u) o
-      back none = refl
-      back (some u) = ap (λ (c : Bool). some (with_busy c u)) (sym (offered-self i u))
+      back : (o : Option FunctionalUnit) → option_map (with_busy true) o ≡ option_map (λ (u : FunctionalUnit). with_busy (occupied (Some i) i u) u) o
+      back None = refl
+      back (Some u) = ap (λ (c : Bool). Some (with_busy c u)) (sym (offered-self i u))
 
-      by-offer : (w : Option ℕ) → nth (put_back w s.units) i ≡ omap (λ (u : FunctionalUnit). with_busy (occupied w i u) u) (nth s.units i)
-      by-offer none = same (λ (u : FunctionalUnit). occupied none i u) (nth s.units i) (λ u. or-false u.busy)
-      by-offer (some k) = go (eqb i k) refl
+      by-offer : (w : Option ℕ) → slice_get (put_back w s.units) i ≡ option_map (λ (u : FunctionalUnit). with_busy (occupied w i u) u) (slice_get s.units i)
+      by-offer None = same (λ (u : FunctionalUnit). occupied None i u) (slice_get s.units i) (λ u. or-false u.busy)
+      by-offer (Some k) = go (eqb i k) refl
         where
           go
               : (b : Bool) → eqb i k ≡ b
-              → nth (modify k (with_busy true) s.units) i ≡ omap (λ (u : FunctionalUnit). with_busy (occupied (some k) i u) u) (nth s.units i)
+              → slice_get (modify k (with_busy true) s.units) i ≡ option_map (λ (u : FunctionalUnit). with_busy (occupied (Some k) i u) u) (slice_get s.units i)
           go true e =
               subst
-              (λ (m : ℕ). nth (modify m (with_busy true) s.units) i ≡ omap (λ (u : FunctionalUnit). with_busy (occupied (some m) i u) u) (nth s.units i))
-              (eqb-true i k e) (nth-same (with_busy true) s.units i ∙ back (nth s.units i))
+              (λ (m : ℕ). slice_get (modify m (with_busy true) s.units) i ≡ option_map (λ (u : FunctionalUnit). with_busy (occupied (Some m) i u) u) (slice_get s.units i))
+              (eqb-true i k e) (nth-same (with_busy true) s.units i ∙ back (slice_get s.units i))
           go false e =
               nth-other (with_busy true) s.units k i (eqb-false i k e)
-              ∙ same (λ (u : FunctionalUnit). occupied (some k) i u) (nth s.units i)
+              ∙ same (λ (u : FunctionalUnit). occupied (Some k) i u) (slice_get s.units i)
               (λ u. ap (λ (c : Bool). u.busy || c) e ∙ or-false u.busy)
 
-  table_at : (i : ℕ) → nth (book_of s).FU i ≡ omap row_of (omap (as-shown i) (nth s.units i))
-  table_at i = nth-map row_of (shown_units s) i ∙ ap (omap row_of) (shown-at i)
+  table_at : (i : ℕ) → slice_get (book_of s).FU i ≡ option_map row_of (option_map (as-shown i) (slice_get s.units i))
+  table_at i = nth-map row_of (shown_units s) i ∙ ap (option_map row_of) (shown-at i)
 
-  pub holds_row : (i : ℕ) (u : FunctionalUnit) → Holds s i u → nth (book_of s).FU i ≡ some (full-row u)
+  pub holds_row : (i : ℕ) (u : FunctionalUnit) → Holds s i u → slice_get (book_of s).FU i ≡ Some (full-row u)
   holds_row i u h =
-      table_at i ∙ ap (λ (o : Option FunctionalUnit). omap row_of (omap (as-shown i) o)) h.there
-      ∙ ap (λ (f : Status). some f) (row-full (as-shown i u) h.in_flight)
+      table_at i ∙ ap (λ (o : Option FunctionalUnit). option_map row_of (option_map (as-shown i) o)) h.there
+      ∙ ap (λ (f : Status). Some f) (row-full (as-shown i u) h.in_flight)
 
-  pub row-shown : (i : ℕ) (f : Status) → nth (book_of s).FU i ≡ some f → Shown s i f
-  row-shown i f h = go (nth s.units i) refl (sym (table_at i) ∙ h)
+  pub row-shown : (i : ℕ) (f : Status) → slice_get (book_of s).FU i ≡ Some f → Shown s i f
+  row-shown i f h = go (slice_get s.units i) refl (sym (table_at i) ∙ h)
     where
-      go : (o : Option FunctionalUnit) → nth s.units i ≡ o → omap row_of (omap (as-shown i) o) ≡ some f → Shown s i f
-      go none e k = none-some f k
-      go (some u) e k = at (occupied s.offer.writing i u) refl (some_inj (row_of (as-shown i u)) f k)
+      go : (o : Option FunctionalUnit) → slice_get s.units i ≡ o → option_map row_of (option_map (as-shown i) o) ≡ Some f → Shown s i f
+      go None e k = none-some f k
+      go (Some u) e k = at (occupied s.offer.writing i u) refl (some_inj (row_of (as-shown i u)) f k)
         where
           at : (b : Bool) → occupied s.offer.writing i u ≡ b → row_of (as-shown i u) ≡ f → Shown s i f
           at true l q = busy u (record { there = e; in_flight = l }) (sym q ∙ row-full (as-shown i u) l)
@@ -178,17 +179,17 @@ module _ (s : State) where
 
   -- The operation of unit i, by its row.
   pub fi-in : (i r : ℕ) → In r (fi_at (book_of s) i) → (u : FunctionalUnit) × Holds s i u × In r u.destinations
-  fi-in i r h = go (nth (book_of s).FU i) refl h
+  fi-in i r h = go (slice_get (book_of s).FU i) refl h
     where
       at : (f : Status) → Shown s i f → In r f.Fi → (u : FunctionalUnit) × Holds s i u × In r u.destinations
       at f (busy u q e) n = (u, q, subst (λ (x : Status). In r x.Fi) e n)
       at f (free e) n = absurd (subst (λ (x : Status). In r x.Fi) e n)
 
       go
-          : (o : Option Status) → nth (book_of s).FU i ≡ o → In r (when_some o [] (λ (x : Status). x.Fi))
+          : (o : Option Status) → slice_get (book_of s).FU i ≡ o → In r (when_some o [] (λ (x : Status). x.Fi))
           → (u : FunctionalUnit) × Holds s i u × In r u.destinations
-      go none e n = absurd n
-      go (some f) e n = at f (row-shown i f e) n
+      go None e n = absurd n
+      go (Some f) e n = at f (row-shown i f e) n
 
   -- One operation is in a unit.
   pub holds-one : (i : ℕ) (u v : FunctionalUnit) → Holds s i u → Holds s i v → v ≡ u

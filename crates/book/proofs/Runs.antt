@@ -2,9 +2,9 @@
 use Prim.Native.Nat.{ℕ}
 use mathlib.Core.Path.{◌≡◌, refl, sym, ◌∙◌, ap}
 use mathlib.Core.Bool.{Bool, true, false, cond, true≢false}
-use mathlib.Core.Option.{Option, none, some}
+use Rattle.std.specs.Prelude.{Option, None, Some}
 use mathlib.Core.List.{List, [], ◌∷◌}
-use Rattle.laws.specs.Lists.{any}
+use Rattle.std.specs.List.{list_any}
 use Rattle.laws.specs.Optional.{when_some}
 use Rattle.laws.specs.Texts.{Text, bytes}
 use Rattle.model.specs.Calls.{Call, start, retire, retry, resolve, advance, fetch, capacity, overlap, halt, fault, reset, redirect, view, cell, text, after, calls, refusal, run, runs}
@@ -49,7 +49,7 @@ module _ (s : State) (h : Invariant s) (a : Along s) where
       after-offer : (t : State) → (after_issue t).offer.writing ≡ t.offer.writing
       after-offer t = refl
 
-      go : (b : Bool) → stops s ≡ b → (do_advance r s).offer.writing ≡ none
+      go : (b : Bool) → stops s ≡ b → (do_advance r s).offer.writing ≡ None
       go true e =
           ap (λ (b : Bool). (cond b (closed s) (after_issue (issue (before_issue r (closed s))))).offer.writing) e
           ∙ (closed-unoffered s h).no_offer
@@ -74,30 +74,30 @@ module _ (s : State) (h : Invariant s) (a : Along s) where
   -- The units are built anew only where none is busy.
   capacity-along : (k n : ℕ) → s.front.in_cycle ≡ false → Along (set_capacity k n s)
   unfolding scoreboard units
-  capacity-along k n c = go (any is_busy s.units) refl
+  capacity-along k n c = go (list_any is_busy s.units) refl
     where
-      w : s.offer.writing ≡ none
+      w : s.offer.writing ≡ None
       w = outside s h c
 
-      idle-result : any is_busy s.units ≡ false → (r : ℕ) → producer_of s.producer r ≡ none
+      idle-result : list_any is_busy s.units ≡ false → (r : ℕ) → producer_of s.producer r ≡ None
       idle-result e r = at (producer_of s.producer r) refl
         where
-          at : (o : Option ℕ) → producer_of s.producer r ≡ o → o ≡ none
-          at none f = refl
-          at (some i) f =
+          at : (o : Option ℕ) → producer_of s.producer r ≡ o → o ≡ None
+          at None f = refl
+          at (Some i) f =
               let u = h.claimant r i f in
               absurd
               (true≢false
               (sym (holds-busy s w i u.0 u.1)
               ∙ all-at (λ (v : FunctionalUnit). is_busy v ≡ false) s.units i u.0 u.1.there (any_none is_busy s.units e)))
 
-      go : (b : Bool) → any is_busy s.units ≡ b → Along (noted k n s (rebuilt b (with_noted k n s) s.units))
+      go : (b : Bool) → list_any is_busy s.units ≡ b → Along (noted k n s (rebuilt b (with_noted k n s) s.units))
       go true e = along-same s (noted k n s s.units) refl refl a
       go false e =
           let t = noted k n s (build_units 0 (with_noted k n s)) in
           along-none t w (idle-in-book t w (built-idle 0 (with_noted k n s)) (idle-result e))
 
-  along-run : (c : Call) → refusal s c ≡ none → Along (run s c)
+  along-run : (c : Call) → refusal s c ≡ None → Along (run s c)
   unfolding calls writing scoreboard
   along-run start p = start-along (start_outside s p)
   along-run retire p = along-same s (run s retire) refl refl a
@@ -122,8 +122,8 @@ module _ (s : State) (h : Invariant s) (a : Along s) where
   along-after c = go (refusal s c) refl
     where
       go : (o : Option ℕ) → refusal s c ≡ o → Along (when_some o (run s c) (λ (n : ℕ). s))
-      go none e = along-run c e
-      go (some n) e = a
+      go None e = along-run c e
+      go (Some n) e = a
 
 -- ── Any list of calls ───────────────────────────────────────────────────────
 

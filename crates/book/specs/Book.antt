@@ -19,10 +19,10 @@
 -- 3. Op is the operation's class.
 -- 4. The book's third table, instruction status, is left out: it says which steps an instruction has done, and nothing above reads
 --    it but "functional unit done". That a unit has read shows in its row: each R is No and each Q is 0.
-use Rattle.std.specs.Prelude.{ℕ, ◌≡◌, Bool, true, false, cond, not, ◌&&◌, ◌||◌, List, [], map, eqb, replicate}
-use Rattle.std.proofs.Math.Option.{Option, none, some}
-use Rattle.laws.specs.Lists.{all, any, elem, modify, nth}
-use Rattle.laws.specs.Optional.{is_none, is_some, when_some}
+use Rattle.std.specs.Prelude.{ℕ, ◌≡◌, Bool, true, false, cond, not, ◌&&◌, ◌||◌, List, [], map, eqb, replicate, Option, None, Some, slice_get, is_some}
+use Rattle.laws.specs.Lists.{elem, modify}
+use Rattle.std.specs.List.{list_all, list_any}
+use Rattle.laws.specs.Optional.{is_none, when_some}
 use Rattle.capability.specs.declared.PipelineInstructionClass.{PipelineInstructionClass}
 use Rattle.capability.specs.declared.PipelineInstructionClass.TheVariants.{Unknown}
 
@@ -57,19 +57,19 @@ book u r = record { FU = u; Result = r }
 
 -- Busy[i], Fi[i]. A unit that is not there is not Busy, and is not free either.
 abbrev pub busy_at : Book → ℕ → Bool
-busy_at b i = when_some (nth b.FU i) false (λ (u : Status). u.Busy)
+busy_at b i = when_some (slice_get b.FU i) false (λ (u : Status). u.Busy)
 
 abbrev pub free_at : Book → ℕ → Bool
-free_at b i = when_some (nth b.FU i) false (λ (u : Status). not u.Busy)
+free_at b i = when_some (slice_get b.FU i) false (λ (u : Status). not u.Busy)
 
 abbrev pub fi_at : Book → ℕ → List ℕ
-fi_at b i = when_some (nth b.FU i) [] (λ (u : Status). u.Fi)
+fi_at b i = when_some (slice_get b.FU i) [] (λ (u : Status). u.Fi)
 
 -- ── Issue ───────────────────────────────────────────────────────────────────
 
 -- not Busy[FU] and not Result[D]
 abbrev pub can_issue : Book → ℕ → List ℕ → Bool
-can_issue b i ds = free_at b i && not (any (λ (d : ℕ). is_some (b.Result d)) ds)
+can_issue b i ds = free_at b i && not (list_any (λ (d : ℕ). is_some (b.Result d)) ds)
 
 -- F ← S; Q ← Result[S]; R ← not Q
 abbrev pub fill : (ℕ → Option ℕ) → ℕ → Source
@@ -77,7 +77,7 @@ fill result s = source s (result s) (is_none (result s))
 
 -- Result[D] ← FU
 abbrev pub claimed_by : ℕ → List ℕ → (ℕ → Option ℕ) → ℕ → Option ℕ
-claimed_by i ds result r = cond (elem r ds) (some i) (result r)
+claimed_by i ds result r = cond (elem r ds) (Some i) (result r)
 
 abbrev pub do_issue : ℕ → PipelineInstructionClass → List ℕ → List ℕ → Book → Book
 do_issue i o ss ds b =
@@ -87,14 +87,14 @@ do_issue i o ss ds b =
 
 -- Rj and Rk
 abbrev pub all_ready : Status → Bool
-all_ready u = all (λ (x : Source). x.R) u.sources
+all_ready u = list_all (λ (x : Source). x.R) u.sources
 
 abbrev pub can_read : Book → ℕ → Bool
-can_read b i = when_some (nth b.FU i) false all_ready
+can_read b i = when_some (slice_get b.FU i) false all_ready
 
 -- R ← No; Q ← 0
 abbrev pub read_row : Status → Status
-read_row u = status u.Busy u.Op u.Fi (map (λ (x : Source). source x.F none false) u.sources)
+read_row u = status u.Busy u.Op u.Fi (map (λ (x : Source). source x.F None false) u.sources)
 
 abbrev pub do_read : ℕ → Book → Book
 do_read i b = book (modify i read_row b.FU) b.Result
@@ -108,12 +108,12 @@ abbrev pub overwritable : List ℕ → Source → Bool
 overwritable ds x = not (elem x.F ds) || not x.R
 
 abbrev pub can_write : Book → ℕ → Bool
-can_write b i = all (λ (f : Status). all (overwritable (fi_at b i)) f.sources) b.FU
+can_write b i = list_all (λ (f : Status). list_all (overwritable (fi_at b i)) f.sources) b.FU
 
 -- if Q[f] = FU then R[f] ← Yes
 abbrev pub owes : ℕ → Option ℕ → Bool
-owes i none = false
-owes i (some k) = eqb k i
+owes i None = false
+owes i (Some k) = eqb k i
 
 abbrev pub wake : ℕ → Source → Source
 wake i x = source x.F x.Q (cond (owes i x.Q) true x.R)
@@ -127,7 +127,7 @@ free_row u = status false u.Op u.Fi u.sources
 
 -- Result[Fi[FU]] ← 0
 abbrev pub released : List ℕ → (ℕ → Option ℕ) → ℕ → Option ℕ
-released ds result r = cond (elem r ds) none (result r)
+released ds result r = cond (elem r ds) None (result r)
 
 abbrev pub do_write : ℕ → Book → Book
 do_write i b = book (modify i free_row (map (wake_row i) b.FU)) (released (fi_at b i) b.Result)
@@ -138,14 +138,14 @@ abbrev pub idle_row : Status
 idle_row = status false Unknown [] []
 
 abbrev pub idle_tables : ℕ → Book
-idle_tables n = book (replicate n idle_row) (λ (r : ℕ). none)
+idle_tables n = book (replicate n idle_row) (λ (r : ℕ). None)
 
 -- The unit has read: each R is No, and each Q is 0.
 abbrev pub is_read : Source → Bool
 is_read x = not x.R && is_none x.Q
 
 abbrev pub has_read : Book → ℕ → Bool
-has_read b i = when_some (nth b.FU i) false (λ (u : Status). all is_read u.sources)
+has_read b i = when_some (slice_get b.FU i) false (λ (u : Status). list_all is_read u.sources)
 
 pub data Reached : Book → Type 0 where
   idle : (n : ℕ) → Reached (idle_tables n)
@@ -162,7 +162,7 @@ pub data Reached : Book → Type 0 where
 -- The book leaves the row of a unit that is no longer Busy as it was, and a Q whose R is set until the operand is read. No condition and
 -- no bookkeeping looks at either: `NeverLookedAt` says so. The tables with both taken out:
 abbrev pub tidy_source : Source → Source
-tidy_source x = source x.F (cond x.R none x.Q) x.R
+tidy_source x = source x.F (cond x.R None x.Q) x.R
 
 abbrev pub tidy_row : Status → Status
 tidy_row u = cond u.Busy (status true u.Op u.Fi (map tidy_source u.sources)) idle_row

@@ -1,8 +1,8 @@
 -- The engine's conditions to issue, read and write, and what these steps do to its tables, held against the book: true of every engine
 -- that is made, after any list of calls.
-use Rattle.std.specs.Prelude.{ℕ, ◌≤◌, ◌<◌, ◌≡◌, Bool, true, false, cond, not, ◌&&◌, List, [], ◌∷◌, map, ◌↔◌, eqb}
-use Rattle.std.proofs.Math.Option.{Option, none, some}
-use Rattle.laws.specs.Lists.{any, any_at, elem, nth}
+use Rattle.std.specs.Prelude.{ℕ, ◌≤◌, ◌<◌, ◌≡◌, Bool, true, false, cond, not, ◌&&◌, List, [], ◌∷◌, map, ◌↔◌, eqb, Option, None, Some, slice_get}
+use Rattle.laws.specs.Lists.{any_at, elem}
+use Rattle.std.specs.List.{list_any}
 use Rattle.laws.specs.Optional.{is_none}
 use Rattle.capability.specs.declared.Phase.TheVariants.{Wait, Read, Write}
 use Rattle.model.specs.Config.{PipelineShape, spec_index, is_memory, is_system}
@@ -15,22 +15,7 @@ use Rattle.model.specs.Write.{start_cycle, write_blocked}
 use Rattle.model.specs.Issue.{issue, learn, place}
 use Rattle.model.specs.Scoreboard.{closed, before_issue, stops, advance}
 use Rattle.invariant.specs.Invariant.{Holds, In}
-use Rattle.book.specs.Book.{
-  Source,
-  Status,
-  Book,
-  book,
-  fi_at,
-  can_issue,
-  do_issue,
-  all_ready,
-  can_read,
-  read_row,
-  can_write,
-  do_write,
-  Reached,
-  tidy,
-}
+use Rattle.book.specs.Book.{Source, Status, Book, book, fi_at, can_issue, do_issue, all_ready, can_read, read_row, can_write, do_write, Reached, tidy}
 use Rattle.book.specs.Tables.{book_of}
 
 -- ── Issue ───────────────────────────────────────────────────────────────────
@@ -42,7 +27,7 @@ looked t o = resolve t.names o.info
 -- Unit i is of the operation's kind, and the book may issue the operation to it.
 abbrev pub MayIssue : State → Op → ℕ → Type 0
 MayIssue t o i =
-    ((u : FunctionalUnit) × (nth t.units i ≡ some u) × (u.spec ≡ spec_index t.machine.specs o.core.decoded.class))
+    ((u : FunctionalUnit) × (slice_get t.units i ≡ Some u) × (u.spec ≡ spec_index t.machine.specs o.core.decoded.class))
     × (can_issue (book_of t) i (looked t o).written ≡ true)
 
 -- Issue moves the operation into unit i.
@@ -86,7 +71,7 @@ in_the_way ds x = elem x.F ds && is_none x.Q
 
 abbrev pub no_reader : Book → ℕ → Bool
 no_reader b i =
-    not (any_at (λ (j : ℕ) (f : Status). not (eqb j i) && any (in_the_way (fi_at b i)) f.sources) 0 b.FU)
+    not (any_at (λ (j : ℕ) (f : Status). not (eqb j i) && list_any (in_the_way (fi_at b i)) f.sources) 0 b.FU)
 
 -- Unit i holds the finished operation of u, and nothing blocks its write: the WAR rule, memory order, a drained machine.
 pub record Writable (s : State) (i : ℕ) (u : FunctionalUnit) : Type 0 where
@@ -103,11 +88,11 @@ pub record Writable (s : State) (i : ℕ) (u : FunctionalUnit) : Type 0 where
 -- A cycle of engine s: start offers a result, and the advance that follows writes it, reads, and issues.
 pub record ByTheBook (s : State) : Type 0 where
   -- Register result status: Result[r] is unit i exactly where unit i is Busy and r is in its Fi.
-  pub result_status : (r i : ℕ) → ((book_of s).Result r ≡ some i) ↔ In r (fi_at (book_of s) i)
+  pub result_status : (r i : ℕ) → ((book_of s).Result r ≡ Some i) ↔ In r (fi_at (book_of s) i)
   -- Write result. A start offers the oldest of the writable units, if there is one, and changes no table.
   pub offers
       : s.front.in_cycle ≡ false → (i : ℕ)
-      → ((start_cycle s).offer.writing ≡ some i)
+      → ((start_cycle s).offer.writing ≡ Some i)
       ↔ ((u : FunctionalUnit) × Writable s i u
       × ((j : ℕ) (v : FunctionalUnit) → Writable s j v → u.op.core.seq ≤ v.op.core.seq))
   pub start_tables : s.front.in_cycle ≡ false → book_of (start_cycle s) ≡ book_of s
@@ -121,11 +106,11 @@ pub record ByTheBook (s : State) : Type 0 where
       ↔ ((can_write (book_of s) i ≡ true)
       × ((j : ℕ) (v : FunctionalUnit) (r : ℕ) → Holds s j v → (j ≡ i → ⊥) → In r v.sources → In r u.destinations → v.phase ≡ Wait))
   -- The bookkeeping is the book's, for the result on offer.
-  pub write_tables : (i : ℕ) → s.offer.writing ≡ some i → book_of (closed s) ≡ tidy (do_write i (book_of s))
-  pub unwritten_tables : s.offer.writing ≡ none → book_of (closed s) ≡ book_of s
+  pub write_tables : (i : ℕ) → s.offer.writing ≡ Some i → book_of (closed s) ≡ tidy (do_write i (book_of s))
+  pub unwritten_tables : s.offer.writing ≡ None → book_of (closed s) ≡ book_of s
   -- Read operands: exactly where the book lets a unit in phase Wait read, by the tables after the write. The bookkeeping is the book's.
   pub reads
-      : (redirect : Option ℕ) (i : ℕ) (u : FunctionalUnit) → nth (closed s).units i ≡ some u → u.busy ≡ true
+      : (redirect : Option ℕ) (i : ℕ) (u : FunctionalUnit) → slice_get (closed s).units i ≡ Some u → u.busy ≡ true
       → ((unit_at (before_issue redirect (closed s)).units i).phase ≡ Read)
       ↔ ((u.phase ≡ Wait) × (can_read (book_of (closed s)) i ≡ true))
   pub read_tables : (redirect : Option ℕ) → book_of (before_issue redirect (closed s)) ≡ all_read (book_of (closed s))
@@ -144,7 +129,7 @@ InTheBook s = (b : Book) × Reached b × (book_of s ≡ tidy b)
 -- Every engine that is made, after any calls.
 abbrev pub Demand2Book : Type 0
 Demand2Book =
-    (d : PipelineShape) (entry lent : ℕ) (cs : List Call) → make_refusal d lent ≡ none
+    (d : PipelineShape) (entry lent : ℕ) (cs : List Call) → make_refusal d lent ≡ None
     → ByTheBook (runs (new d entry) cs) × InTheBook (runs (new d entry) cs)
 
 -- ── The oldest operation is held up by nothing ──────────────────────────────
@@ -157,11 +142,11 @@ pub record Oldest (s : State) (i : ℕ) (u : FunctionalUnit) : Type 0 where
 -- It waits for no register, nothing blocks its write, and once it has finished a start offers it.
 pub record Unheld (s : State) (i : ℕ) (u : FunctionalUnit) : Type 0 where
   pub unwaiting : u.pending ≡ []
-  pub unblocked : write_blocked s.units i ≡ none
-  pub offered_next : u.phase ≡ Write → (start_cycle s).offer.writing ≡ some i
+  pub unblocked : write_blocked s.units i ≡ None
+  pub offered_next : u.phase ≡ Write → (start_cycle s).offer.writing ≡ Some i
 
 -- Of every engine between two cycles, after any calls.
 abbrev pub OldestUnheld : Type 0
 OldestUnheld =
-    (d : PipelineShape) (entry lent : ℕ) (cs : List Call) → make_refusal d lent ≡ none → (runs (new d entry) cs).front.in_cycle ≡ false
+    (d : PipelineShape) (entry lent : ℕ) (cs : List Call) → make_refusal d lent ≡ None → (runs (new d entry) cs).front.in_cycle ≡ false
     → (i : ℕ) (u : FunctionalUnit) → Oldest (runs (new d entry) cs) i u → Unheld (runs (new d entry) cs) i u

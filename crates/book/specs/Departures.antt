@@ -1,9 +1,8 @@
 -- Where the engine departs from the book: for each departure a smallest state or run that shows it, as a test that gives true. All but the
 -- first are runs, so of engines that are reached by calls. docs/DIFFERENCES.md has the list, with the places in the Rust.
-use Rattle.std.specs.Prelude.{ℕ, zero, suc, Bool, true, false, not, ◌&&◌, List, [], ◌∷◌, ◌++◌, eqb, length}
-use Rattle.std.proofs.Math.Option.{Option, none, some}
-use Rattle.laws.specs.Optional.{value_or, is_none, is_some}
-use Rattle.laws.specs.Lists.{all}
+use Rattle.std.specs.Prelude.{ℕ, zero, suc, Bool, true, false, not, ◌&&◌, List, [], ◌∷◌, ◌++◌, eqb, length, Option, None, Some, is_some}
+use Rattle.laws.specs.Optional.{value_or, is_none}
+use Rattle.std.specs.List.{list_all}
 use Rattle.laws.specs.Texts.{Text, bytes}
 use Rattle.capability.specs.declared.Phase.{Phase}
 use Rattle.capability.specs.declared.Phase.TheVariants.{Read, Execute, Write}
@@ -25,7 +24,7 @@ use Rattle.book.specs.Conditions.{no_reader}
 -- ── Machines and runs ───────────────────────────────────────────────────────
 
 abbrev pub machine_with : Timing → List UnitSpec → PipelineShape
-machine_with t ks = pipeline_shape (role.Fetch ∷ role.Decode ∷ role.Execute ∷ []) none t ks 1
+machine_with t ks = pipeline_shape (role.Fetch ∷ role.Decode ∷ role.Execute ∷ []) None t ks 1
 
 -- n units of one kind that takes every class. A multiply takes 3 cycles, all else 1.
 abbrev pub units_of : ℕ → PipelineShape
@@ -33,7 +32,7 @@ units_of n = machine_with (timing 0 2 0 0 0 0 0) (unit_spec (bytes "EX") [] Alu 
 
 -- A cycle: what is offered is retired. (Without an offer `retire` is refused, and changes nothing.)
 abbrev pub cycle : List Call
-cycle = start ∷ retire ∷ advance none 200 ∷ []
+cycle = start ∷ retire ∷ advance None 200 ∷ []
 
 abbrev pub cycles : ℕ → List Call
 cycles zero = []
@@ -41,7 +40,7 @@ cycles (suc n) = cycle ++ cycles n
 
 -- A cycle, and the fetch of an operation that it invites.
 abbrev pub fetching : PipelineInstructionClass → Bool → List Text → List Text → List Call
-fetching c branch r w = cycle ++ (fetch (given (decoded 0 4 c branch false) (info_of [] none none r w 0)) 200 ∷ [])
+fetching c branch r w = cycle ++ (fetch (given (decoded 0 4 c branch false) (info_of [] None None r w 0)) 200 ∷ [])
 
 abbrev pub op : PipelineInstructionClass → List Text → List Text → List Call
 op c r w = fetching c false r w
@@ -67,7 +66,7 @@ offers_unit s i = eqb (value_or 99 (next_offer s)) i
 
 -- The engine where the next advance issues.
 abbrev pub at_issue : State → State
-at_issue s = before_issue none (closed s)
+at_issue s = before_issue None (closed s)
 
 -- ── WAR: a reader counts until it has written ───────────────────────────────
 
@@ -75,7 +74,7 @@ at_issue s = before_issue none (closed s)
 abbrev pub reader_and_writer : Phase → State
 reader_and_writer p =
     with_units (unit_of 0 0 Alu false true no_op p (0 ∷ []) [] [] ∷ unit_of 0 1 Alu false true no_op Write [] (0 ∷ []) [] ∷ [])
-    (with_registers x1 (some 1 ∷ []) (new (units_of 2) 0))
+    (with_registers x1 (Some 1 ∷ []) (new (units_of 2) 0))
 
 abbrev pub only_the_book : Phase → Bool
 only_the_book p =
@@ -84,7 +83,7 @@ only_the_book p =
 
 -- In each phase after the read. (Smallest: by `war_exactly` it always takes another unit, a source and a destination.)
 unfoldable pub war_outlasts_the_read : Bool
-war_outlasts_the_read = all only_the_book (Read ∷ Execute ∷ Write ∷ [])
+war_outlasts_the_read = list_all only_the_book (Read ∷ Execute ∷ Write ∷ [])
 
 -- In a run: a multiply that reads x1, an alu that writes it; before the seventh start the multiply executes, the alu has finished.
 abbrev pub war_run : State
@@ -162,15 +161,15 @@ writing_x1 n r w = runs (played (units_of n) (op Alu [] x1 ++ (op Alu r w ++ cyc
 -- Operation 1, in unit 1, waits for x1, and reads it in the advance that writes it.
 unfoldable pub read_as_written : Bool
 read_as_written =
-    not (can_read (book_of (writing_x1 2 x1 [])) 1) && phase_at (do_advance none (writing_x1 2 x1 [])) 1 Read
+    not (can_read (book_of (writing_x1 2 x1 [])) 1) && phase_at (do_advance None (writing_x1 2 x1 [])) 1 Read
 
 -- Operation 1, queued behind a claim on x1, is issued in the advance that releases it; and so behind a busy unit.
 unfoldable pub issued_as_released : Bool
 issued_as_released =
-    not (can_issue (book_of (writing_x1 2 [] x1)) 1 (0 ∷ [])) && number_at (do_advance none (writing_x1 2 [] x1)) 0 1
+    not (can_issue (book_of (writing_x1 2 [] x1)) 1 (0 ∷ [])) && number_at (do_advance None (writing_x1 2 [] x1)) 0 1
 
 unfoldable pub issued_as_freed : Bool
-issued_as_freed = not (can_issue (book_of (writing_x1 1 [] [])) 0 []) && number_at (do_advance none (writing_x1 1 [] [])) 0 1
+issued_as_freed = not (can_issue (book_of (writing_x1 1 [] [])) 0 []) && number_at (do_advance None (writing_x1 1 [] [])) 0 1
 
 -- ── Kinds of unit ───────────────────────────────────────────────────────────
 
@@ -210,7 +209,7 @@ abbrev pub two_waiting : State
 two_waiting = runs (played (units_of 3) (op Alu [] x1 ++ (op Alu x1 [] ++ (op Alu x1 [] ++ cycles 2)))) (start ∷ retire ∷ [])
 
 unfoldable pub both_read : Bool
-both_read = phase_at (do_advance none two_waiting) 1 Read && phase_at (do_advance none two_waiting) 2 Read
+both_read = phase_at (do_advance None two_waiting) 1 Read && phase_at (do_advance None two_waiting) 2 Read
 
 -- Behind a branch that is written now, two operations are queued and two units are free.
 abbrev pub two_queued : State

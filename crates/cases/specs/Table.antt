@@ -1,51 +1,22 @@
 -- The bench cases P1 to P12 of document 01, and what `forecast` prints: a row for each value.
-use Rattle.std.specs.Prelude.{ℕ, zero, suc, ◌-◌, Bool, true, false, cond, List, [], ◌∷◌, ◌++◌, map, length, take, replicate}
+use Rattle.std.specs.Prelude.{ℕ, zero, suc, ◌-◌, Bool, true, false, cond, List, [], ◌∷◌, ◌++◌, map, length, take, replicate, Option, None, Some}
 use Prim.Native.String.{String}
-use Rattle.std.proofs.Math.Option.{Option, none, some}
 use Rattle.laws.specs.Optional.{is_none, when_some}
-use Rattle.laws.specs.Lists.{head, all}
+use Rattle.laws.specs.Lists.{head}
+use Rattle.std.specs.List.{list_all}
 use Rattle.laws.specs.Numbers.{max64}
 use Rattle.laws.specs.Texts.{Text, bytes, same, decimal}
 use Rattle.capability.specs.declared.PipelineInstructionClass.{PipelineInstructionClass}
 use Rattle.capability.specs.declared.PipelineInstructionClass.TheVariants.{Alu, Multiply, Load, Branch}
 use Rattle.capability.specs.declared.PipelineStageRole.TheVariants as role
-use Rattle.model.specs.Config.{
-  Timing,
-  timing,
-  latency,
-  UnitSpec,
-  unit_spec,
-  spec_index,
-  pipeline_shape,
-  queue_depth,
-}
+use Rattle.model.specs.Config.{Timing, timing, latency, UnitSpec, unit_spec, spec_index, pipeline_shape, queue_depth}
 use Rattle.model.specs.Op.{Decoded, decoded, given, no_info, sequential_address, first_word}
 use Rattle.model.specs.Registers.{intern_all}
 use Rattle.model.specs.Timeline.{Row}
 use Rattle.model.specs.State.{State, new}
 use Rattle.model.specs.Issue.{learn}
 use Rattle.model.specs.Calls.{Call, start, advance, fetch, capacity, overlap, after, runs}
-use Rattle.model.specs.Forecast.{
-  parse,
-  forecast_shape,
-  Lent,
-  lent_of,
-  Run,
-  not_made,
-  line_refused,
-  finished,
-  going,
-  forecast_run,
-  excess,
-  printed,
-  Forecast,
-  not_written,
-  written,
-  forecast_answer,
-  forecast_out,
-  forecast_memory,
-  forecast_program,
-}
+use Rattle.model.specs.Forecast.{parse, forecast_shape, Lent, lent_of, Run, not_made, line_refused, finished, going, forecast_run, excess, printed, Forecast, not_written, written, forecast_answer, forecast_out, forecast_memory, forecast_program}
 
 -- A row: the case's name, what the definitions give, and what document 01 says.
 pub record Case : Type 0 where
@@ -82,7 +53,7 @@ holds c = same c.found c.said
 
 -- The claim over all rows.
 unfoldable pub all_hold : List Case → Bool
-all_hold cs = all holds cs
+all_hold cs = list_all holds cs
 
 -- ── What the rows speak of ──────────────────────────────────────────────────
 
@@ -106,7 +77,7 @@ memory = 51200
 
 -- A cycle, and a fetch of an operation of that class, a branch or not.
 abbrev pub fetch_one : PipelineInstructionClass → Bool → List Call
-fetch_one c b = start ∷ advance none memory ∷ fetch (given (decoded 0 4 c b false) no_info) memory ∷ []
+fetch_one c b = start ∷ advance None memory ∷ fetch (given (decoded 0 4 c b false) no_info) memory ∷ []
 
 -- P8: behind a branch in a unit two operations are queued.
 abbrev pub two_queued : State
@@ -119,17 +90,17 @@ added s t =
     ∷ (t.log.stats.branch_stalls - s.log.stats.branch_stalls) ∷ length t.log.traces ∷ []
 
 abbrev pub redirect_adds : State → List ℕ
-redirect_adds s = added s (runs s (start ∷ advance (some 64) memory ∷ []))
+redirect_adds s = added s (runs s (start ∷ advance (Some 64) memory ∷ []))
 
 -- P9: an operation of latency 255, and so many cycles. Its row has a cell from the first on.
 abbrev pub slow : Lent
-slow = lent_of (new (pipeline_shape [] none (alu_extra 254) [] 1) 0) (replicate 200 255)
+slow = lent_of (new (pipeline_shape [] None (alu_extra 254) [] 1) 0) (replicate 200 255)
 
 unfoldable pub engine_of : Run → Option State
-engine_of (not_made r m) = none
-engine_of (line_refused n r m) = none
-engine_of (finished e) = some e.engine
-engine_of (going e input n) = some e.engine
+engine_of (not_made r m) = None
+engine_of (line_refused n r m) = None
+engine_of (finished e) = Some e.engine
+engine_of (going e input n) = Some e.engine
 
 abbrev pub engine_after : ℕ → Option State
 engine_after n = engine_of (forecast_run n (going slow (bytes "A 4 - - slow") 0))
@@ -144,7 +115,7 @@ row_after n = when_some (engine_after n) [] oldest_row
 -- P10: so many fetches, a redirect before each.
 unfoldable pub fetches : ℕ → List Call
 fetches zero = []
-fetches (suc n) = start ∷ advance (some 0) memory ∷ fetch (given (decoded 0 4 Alu false false) no_info) memory ∷ fetches n
+fetches (suc n) = start ∷ advance (Some 0) memory ∷ fetch (given (decoded 0 4 Alu false false) no_info) memory ∷ fetches n
 
 abbrev pub oldest_id : State → List ℕ
 oldest_id s = map (λ (r : Row). r.id) (take 1 s.log.rows)
@@ -186,9 +157,9 @@ cases =
     ∷ value "P1" (latency (alu_extra 255) Alu) 255
     ∷ value "P1" (latency (alu_extra 18446744073709551614) Alu) 255
     -- P2: address 2^64 - 1, length 0: next 0.
-    ∷ value "P2" (sequential_address none (at max64 0)) 0
+    ∷ value "P2" (sequential_address None (at max64 0)) 0
     -- P2: address 16 with fixed length 0: 17.
-    ∷ value "P2" (sequential_address (some 0) (at 16 4)) 17
+    ∷ value "P2" (sequential_address (Some 0) (at 16 4)) 17
     -- P3: depth: no stages 1; Execute at index 2: 2; three stages without it: 2; Execute first: 1.
     ∷ value "P3" (queue_depth []) 1
     ∷ value "P3" (queue_depth (role.Fetch ∷ role.Decode ∷ role.Execute ∷ [])) 2
@@ -214,7 +185,7 @@ cases =
     ∷ values "P10" (oldest_id (runs bench (fetches 257))) (1 ∷ [])
     -- P11: capacity 0 builds one unit, by a change and at making.
     ∷ value "P11" (length (after bench (capacity 0 0)).units) 1
-    ∷ value "P11" (length (new (pipeline_shape [] none (alu_extra 0) (unit_spec (bytes "EX") [] Alu 0 ∷ []) 1) 0).units) 1
+    ∷ value "P11" (length (new (pipeline_shape [] None (alu_extra 0) (unit_spec (bytes "EX") [] Alu 0 ∷ []) 1) 0).units) 1
     -- P12: first word of "" is "?", of "  add x" is "add".
     ∷ words "P12" (first_word (bytes "")) "?"
     ∷ words "P12" (first_word (bytes "  add x")) "add"

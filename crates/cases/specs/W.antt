@@ -1,6 +1,5 @@
 -- Case W: EX of capacity 3, depth 2, overlap on, mul extra 2, others 0; a multiply writes x2; b alu reads x2, x1; c alu writes x1.
-use Rattle.std.specs.Prelude.{ℕ, zero, suc, true, List, [], ◌∷◌, ◌++◌, replicate}
-use Rattle.std.proofs.Math.Option.{none}
+use Rattle.std.specs.Prelude.{ℕ, zero, suc, true, List, [], ◌∷◌, ◌++◌, replicate, None}
 use Rattle.laws.specs.Optional.{when_some}
 use Rattle.laws.specs.Texts.{bytes}
 use Rattle.capability.specs.declared.PipelineInstructionClass.TheVariants.{Alu}
@@ -16,7 +15,7 @@ use Rattle.cases.specs.Table.{engine_of}
 unfoldable pub w_machine : State
 w_machine =
     after
-    (new (pipeline_shape (role.Fetch ∷ role.Decode ∷ role.Execute ∷ []) none (timing 0 2 0 0 0 0 0) (unit_spec (bytes "EX") [] Alu 3 ∷ []) 4) 0)
+    (new (pipeline_shape (role.Fetch ∷ role.Decode ∷ role.Execute ∷ []) None (timing 0 2 0 0 0 0 0) (unit_spec (bytes "EX") [] Alu 3 ∷ []) 4) 0)
     (overlap true)
 
 -- Driven as `forecast` drives its machine: a is operation 0, b 1, c 2.

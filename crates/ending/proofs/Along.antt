@@ -2,7 +2,7 @@
 use Prim.Native.Nat.{ℕ, zero, suc}
 use mathlib.Core.Path.{◌≡◌, refl, sym, ap, subst}
 use mathlib.Core.Bool.{Bool, true, false, ◌&&◌}
-use mathlib.Core.Option.{Option, none, some}
+use Rattle.std.specs.Prelude.{Option, None, Some}
 use mathlib.Core.List.{List, [], ◌∷◌}
 use lib.ListN.{length}
 use Rattle.laws.specs.Lists.{is_empty}
@@ -65,7 +65,7 @@ module _ (P : State → Type 0) where
       after = k.cycle input e rest n h x
 
       fetched-keeps
-          : (l : Line) (a : ℕ) → refusal (cycle e).engine (fetch_line l a (cycle e)) ≡ none
+          : (l : Line) (a : ℕ) → refusal (cycle e).engine (fetch_line l a (cycle e)) ≡ None
           → P (play (fetch_line l a (cycle e)) (cycle e)).engine
       unfolding fetch_line play
       fetched-keeps l a p =
@@ -78,23 +78,23 @@ module _ (P : State → Type 0) where
 
       line-keeps : (o : Option Line) (a : ℕ) (r : Text) (m : ℕ) → EngineOf (take_parsed o a r m (cycle e))
       unfolding take_parsed take_fetched
-      line-keeps none a r m = tt
-      line-keeps (some l) a r m = go (refusal (cycle e).engine (fetch_line l a (cycle e))) refl
+      line-keeps None a r m = tt
+      line-keeps (Some l) a r m = go (refusal (cycle e).engine (fetch_line l a (cycle e))) refl
         where
           go
               : (q : Option ℕ) → refusal (cycle e).engine (fetch_line l a (cycle e)) ≡ q
               → EngineOf (take_fetched q (fetch_line l a (cycle e)) r m (cycle e))
-          go (some n) p = tt
-          go none p = fetched-keeps l a p
+          go (Some n) p = tt
+          go None p = fetched-keeps l a p
 
       turn-keeps : EngineOf (turn e rest n)
       unfolding turn cycle_and_line take_line
       turn-keeps = go (is_empty rest && idle e.engine)
         where
           line : (o : Option ℕ) (r : Text) → EngineOf (take_line o r n (cycle e))
-          line none r = after
-          line (some a) [] = after
-          line (some a) (y ∷ ys) = line-keeps (parse (first_line (y ∷ ys))) a (other_lines (y ∷ ys)) (suc n)
+          line None r = after
+          line (Some a) [] = after
+          line (Some a) (y ∷ ys) = line-keeps (parse (first_line (y ∷ ys))) a (other_lines (y ∷ ys)) (suc n)
 
           go : (b : Bool) → EngineOf (elim b [ true ↦ finished e | false ↦ cycle_and_line e rest n ])
           go true = x
@@ -115,8 +115,8 @@ module _ (P : State → Type 0) where
     begun-keeps input cells = go (make_refusal forecast_shape (length cells))
       where
         go : (o : Option ℕ) → EngineOf (begun_made (when_some o (made (new forecast_shape 0)) no_machine) input cells)
-        go (some r) = tt
-        go none = at (excess input)
+        go (Some r) = tt
+        go None = at (excess input)
           where
             at
                 : (b : Bool)

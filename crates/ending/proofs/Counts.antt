@@ -3,10 +3,10 @@ use Prim.Native.Nat.{ℕ, suc, ◌+◌}
 use native.Mathlib.Omega.{arith}
 use mathlib.Core.Path.{◌≡◌, refl, ◌∙◌, ap}
 use mathlib.Core.Bool.{Bool, true, false, cond}
-use mathlib.Core.Option.{Option, none, some}
+use Rattle.std.specs.Prelude.{Option, None, Some, slice_get}
 use mathlib.Core.List.{List, [], ◌∷◌, map}
 use lib.ListN.{length}
-use Rattle.laws.specs.Lists.{modify, nth}
+use Rattle.laws.specs.Lists.{modify}
 use Rattle.laws.specs.Texts.{Text}
 use Rattle.capability.specs.declared.PipelineHazardKind.{PipelineHazardKind}
 use Rattle.capability.specs.declared.PipelineHazardKind.TheVariants.{BranchFlush, FunctionalUnitBusy, WriteAfterWrite}
@@ -42,7 +42,7 @@ count-marked (b ∷ bs) us =
     ∙ total-modify-same one-busy (mark_hazard (blocked_kind b.1)) (λ u. refl) b.0 us
 
 pub count-out
-    : (us : List FunctionalUnit) (i : ℕ) (u : FunctionalUnit) → nth us i ≡ some u → u.busy ≡ true
+    : (us : List FunctionalUnit) (i : ℕ) (u : FunctionalUnit) → slice_get us i ≡ Some u → u.busy ≡ true
     → suc (total one-busy (modify i (with_busy false) us)) ≡ total one-busy us
 unfolding one-busy
 count-out us i u e b =
@@ -51,7 +51,7 @@ count-out us i u e b =
 
 -- The unit of an offer is not busy, nor is it when it is cleared.
 pub count-completed
-    : (us : List FunctionalUnit) (i : ℕ) (u : FunctionalUnit) → nth us i ≡ some u → u.busy ≡ false
+    : (us : List FunctionalUnit) (i : ℕ) (u : FunctionalUnit) → slice_get us i ≡ Some u → u.busy ≡ false
     → total one-busy (map (without_waits i) (modify i clear us)) ≡ total one-busy us
 unfolding units one-busy
 count-completed us i u e b =
@@ -63,7 +63,7 @@ count-completed us i u e b =
       total-modify-at one-busy clear i us u e,
     )
 
-pub count-before : (s : State) → in_flight-count (before_issue none s) ≡ in_flight-count s
+pub count-before : (s : State) → in_flight-count (before_issue None s) ≡ in_flight-count s
 unfolding scoreboard issuing units one-busy in_flight-count
 count-before s =
     omega (
@@ -75,12 +75,12 @@ count-before s =
 
 count-blocked : (x : PipelineHazardKind) (d : Detail) (s : State) → in_flight-count (block_issue x d s) ≡ in_flight-count s
 unfolding issuing in_flight-count
-count-blocked x d s = omega (arith, length-modify (with_hazard (some x)) 0 s.queue)
+count-blocked x d s = omega (arith, length-modify (with_hazard (Some x)) 0 s.queue)
 
 count-placed
     : (o : Op) (rest : List Op) (r w : List ℕ) (i : ℕ) (s : State) → s.queue ≡ o ∷ rest
-    → free_unit s.machine.specs s.units o.core.decoded.class ≡ some i
-    → in_flight-count (issue_to o rest r w none (some i) s) ≡ in_flight-count s
+    → free_unit s.machine.specs s.units o.core.decoded.class ≡ Some i
+    → in_flight-count (issue_to o rest r w None (Some i) s) ≡ in_flight-count s
 unfolding issuing units one-busy in_flight-count
 count-placed o rest r w i s q e =
     let v = free-found s.machine.specs s.units o.core.decoded.class i e in
@@ -97,9 +97,9 @@ count-to
     → free_unit s.machine.specs s.units o.core.decoded.class ≡ f
     → in_flight-count (issue_to o rest r w t f s) ≡ in_flight-count s
 unfolding issuing
-count-to o rest r w (some x) f s q e = count-blocked WriteAfterWrite _ s
-count-to o rest r w none none s q e = count-blocked FunctionalUnitBusy _ s
-count-to o rest r w none (some i) s q e = count-placed o rest r w i s q e
+count-to o rest r w (Some x) f s q e = count-blocked WriteAfterWrite _ s
+count-to o rest r w None None s q e = count-blocked FunctionalUnitBusy _ s
+count-to o rest r w None (Some i) s q e = count-placed o rest r w i s q e
 
 count-choose
     : (b y : Bool) (o : Op) (rest : List Op) (s : State) → s.queue ≡ o ∷ rest
@@ -139,7 +139,7 @@ pub record Aside (s t : State) : Type 0 where
   pub rows : t.log.rows ≡ s.log.rows
   pub counters : SameCounters s.log.stats t.log.stats
 
-pub aside-before : (s : State) → Aside s (before_issue none s)
+pub aside-before : (s : State) → Aside s (before_issue None s)
 unfolding scoreboard issuing stall_all
 aside-before s = record { front = refl; rows = refl; counters = counters-stalled _ s.log.stats }
 
@@ -157,9 +157,9 @@ aside_same s t f l =
 
 aside-to : (o : Op) (rest : List Op) (r w : List ℕ) (t f : Option ℕ) (s : State) → Aside s (issue_to o rest r w t f s)
 unfolding issuing
-aside-to o rest r w (some x) f s = aside-blocked WriteAfterWrite _ s
-aside-to o rest r w none none s = aside-blocked FunctionalUnitBusy _ s
-aside-to o rest r w none (some i) s = aside_same s (issue_to o rest r w none (some i) s) refl refl
+aside-to o rest r w (Some x) f s = aside-blocked WriteAfterWrite _ s
+aside-to o rest r w None None s = aside-blocked FunctionalUnitBusy _ s
+aside-to o rest r w None (Some i) s = aside_same s (issue_to o rest r w None (Some i) s) refl refl
 
 aside-choose : (b y : Bool) (o : Op) (rest : List Op) (s : State) → Aside s (issue_choose b y o rest s)
 unfolding issuing

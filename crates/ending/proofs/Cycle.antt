@@ -3,9 +3,9 @@ use Prim.Native.Nat.{ℕ, ◌+◌, ◌≤◌, ◌<◌}
 use native.Mathlib.Omega.{arith}
 use mathlib.Core.Path.{◌≡◌, refl, ◌∙◌, ap}
 use mathlib.Core.Bool.{Bool, true, false, cond}
-use mathlib.Core.Option.{Option, none, some}
+use Rattle.std.specs.Prelude.{Option, None, Some, slice_get}
 use mathlib.Core.List.{List, map}
-use Rattle.laws.specs.Lists.{modify, nth}
+use Rattle.laws.specs.Lists.{modify}
 use Rattle.laws.specs.Numbers.{max64}
 use Rattle.laws.proofs.Maps.{length-of}
 use Rattle.capability.specs.declared.Phase.{Phase}
@@ -31,16 +31,16 @@ use Rattle.ending.proofs.Counts.{SameCounters, aside-before, aside-issue, count-
 
 -- An offer is retired.
 unfoldable pub settled : Option ℕ → State → State
-settled none t = t
-settled (some i) t = retire t
+settled None t = t
+settled (Some i) t = retire t
 
 unfoldable pub cycled : State → State
-cycled s = advance none (settled (start_cycle s).offer.writing (start_cycle s))
+cycled s = advance None (settled (start_cycle s).offer.writing (start_cycle s))
 
 -- 1 where there is an offer.
 abbrev pub one-if : Option ℕ → ℕ
-one-if none = 0
-one-if (some i) = 1
+one-if None = 0
+one-if (Some i) = 1
 
 -- ── Start ───────────────────────────────────────────────────────────────────
 
@@ -56,7 +56,7 @@ module _ (s : State) where
 
   -- The unit found is busy and finished, also after the marks.
   pub still-finished
-      : (i : ℕ) → found ≡ some i → (u : FunctionalUnit) × (nth marked i ≡ some u) × (u.busy ≡ true) × (u.phase ≡ Write)
+      : (i : ℕ) → found ≡ Some i → (u : FunctionalUnit) × (slice_get marked i ≡ Some u) × (u.busy ≡ true) × (u.phase ≡ Write)
   unfolding units
   still-finished i e =
       let f = (found-ready cleared i e).0 in
@@ -72,7 +72,7 @@ module _ (s : State) where
   unfolding writing share op-work op-share
   started-share p =
       ap (λ (n : ℕ). n + total (unit-share p) (take_out found marked))
-      (total-map-same (op-share p) (with_hazard none) (λ o. refl) s.queue)
+      (total-map-same (op-share p) (with_hazard None) (λ o. refl) s.queue)
 
   marked-share : (p : ℕ → Bool) → total (unit-share p) marked ≡ total (unit-share p) s.units
   marked-share p = share-marked p (writable_unit cleared).turned_away cleared ∙ share-cleared p s.units
@@ -82,12 +82,12 @@ module _ (s : State) where
   share-started p = omega (arith, started-share p, marked-share p, go found)
     where
       go : (f : Option ℕ) → total (unit-share p) (take_out f marked) ≤ total (unit-share p) marked
-      go none = omega arith
-      go (some i) = share-out p marked i
+      go None = omega arith
+      go (Some i) = share-out p marked i
 
   -- The unit that is offered is one of those counted.
   pub share-started-less
-      : (p : ℕ → Bool) (i : ℕ) (u : FunctionalUnit) → found ≡ some i → nth marked i ≡ some u → u.busy ≡ true → u.phase ≡ Write
+      : (p : ℕ → Bool) (i : ℕ) (u : FunctionalUnit) → found ≡ Some i → slice_get marked i ≡ Some u → u.busy ≡ true → u.phase ≡ Write
       → p u.op.core.seq ≡ true → share p (start_cycle s) < share p s
   unfolding share writing
   share-started-less p i u f e b w t =
@@ -99,15 +99,15 @@ module _ (s : State) where
   count-started =
       omega (
         arith,
-        length-of (with_hazard none) s.queue,
+        length-of (with_hazard None) s.queue,
         go found refl,
         count-marked (writable_unit cleared).turned_away cleared,
         count-cleared s.units,
       )
     where
       go : (f : Option ℕ) → found ≡ f → total one-busy (take_out f marked) + one-if f ≡ total one-busy marked
-      go none e = omega arith
-      go (some i) e = let w = still-finished i e in omega (arith, count-out marked i w.0 w.1 w.2)
+      go None e = omega arith
+      go (Some i) e = let w = still-finished i e in omega (arith, count-out marked i w.0 w.1 w.2)
 
   pub rows-started : (start_cycle s).log.rows ≡ s.log.rows
   unfolding writing stall_all
@@ -131,15 +131,15 @@ pub record Settled (t u : State) : Type 0 where
 
 pub settled_same : (w : Option ℕ) (t : State) → Settled t (settled w t)
 unfolding settled writing
-settled_same none t = record { machine = refl; units = refl; queue = refl; front = refl; writing = refl; rows = refl; cycles = refl }
-settled_same (some i) t = record { machine = refl; units = refl; queue = refl; front = refl; writing = refl; rows = refl; cycles = refl }
+settled_same None t = record { machine = refl; units = refl; queue = refl; front = refl; writing = refl; rows = refl; cycles = refl }
+settled_same (Some i) t = record { machine = refl; units = refl; queue = refl; front = refl; writing = refl; rows = refl; cycles = refl }
 
 pub settled-committed
     : (w : Option ℕ) (t : State) → t.log.stats.committed + one-if w ≤ max64
     → (settled w t).log.stats.committed ≡ t.log.stats.committed + one-if w
 unfolding settled writing
-settled-committed none t l = omega arith
-settled-committed (some i) t l = omega arith
+settled-committed None t l = omega arith
+settled-committed (Some i) t l = omega arith
 
 step_same : (t : State) → Step t t
 step_same t =
@@ -160,8 +160,8 @@ step_same t =
 
 pub settled-step : (w : Option ℕ) (t : State) → Step t (settled w t)
 unfolding settled
-settled-step none t = step_same t
-settled-step (some i) t = step-retire t
+settled-step None t = step_same t
+settled-step (Some i) t = step-retire t
 
 -- ── Completion ──────────────────────────────────────────────────────────────
 
@@ -170,48 +170,48 @@ unfolding scoreboard issuing
 closed-front s = go s.offer.writing
   where
     go : (w : Option ℕ) → (close_cycle (complete_offer w s)).front ≡ with_turn false false s.front
-    go none = refl
-    go (some i) = refl
+    go None = refl
+    go (Some i) = refl
 
 pub closed-log : (s : State) → (closed s).log ≡ s.log
 unfolding scoreboard issuing
 closed-log s = go s.offer.writing
   where
     go : (w : Option ℕ) → (close_cycle (complete_offer w s)).log ≡ s.log
-    go none = refl
-    go (some i) = refl
+    go None = refl
+    go (Some i) = refl
 
 pub closed-queue : (s : State) → (closed s).queue ≡ s.queue
 unfolding scoreboard issuing
 closed-queue s = go s.offer.writing
   where
     go : (w : Option ℕ) → (close_cycle (complete_offer w s)).queue ≡ s.queue
-    go none = refl
-    go (some i) = refl
+    go None = refl
+    go (Some i) = refl
 
-pub closed-units : (s : State) → s.offer.writing ≡ none → (closed s).units ≡ s.units
+pub closed-units : (s : State) → s.offer.writing ≡ None → (closed s).units ≡ s.units
 unfolding scoreboard issuing
 closed-units s e = ap (λ (w : Option ℕ). (close_cycle (complete_offer w s)).units) e
 
-pub closed-units-at : (s : State) (i : ℕ) → s.offer.writing ≡ some i → (closed s).units ≡ map (without_waits i) (modify i clear s.units)
+pub closed-units-at : (s : State) (i : ℕ) → s.offer.writing ≡ Some i → (closed s).units ≡ map (without_waits i) (modify i clear s.units)
 unfolding scoreboard issuing
 closed-units-at s i e = ap (λ (w : Option ℕ). (close_cycle (complete_offer w s)).units) e
 
 count-closed
-    : (s : State) → ((i : ℕ) → s.offer.writing ≡ some i → OnOffer s.units i) → in_flight-count (closed s) ≡ in_flight-count s
+    : (s : State) → ((i : ℕ) → s.offer.writing ≡ Some i → OnOffer s.units i) → in_flight-count (closed s) ≡ in_flight-count s
 unfolding scoreboard issuing in_flight-count
 count-closed s h = go s.offer.writing refl
   where
     go : (w : Option ℕ) → s.offer.writing ≡ w → in_flight-count (close_cycle (complete_offer w s)) ≡ in_flight-count s
-    go none e = refl
-    go (some i) e = let o = h i e in omega (arith, count-completed s.units i o.0 o.1 o.2)
+    go None e = refl
+    go (Some i) e = let o = h i e in omega (arith, count-completed s.units i o.0 o.1 o.2)
 
 -- ── Advance ─────────────────────────────────────────────────────────────────
 
 abbrev pub advanced : State → State
-advanced t = after_issue (issue (before_issue none (closed t)))
+advanced t = after_issue (issue (before_issue None (closed t)))
 
-pub advance-runs : (t : State) → stops t ≡ false → advance none t ≡ advanced t
+pub advance-runs : (t : State) → stops t ≡ false → advance None t ≡ advanced t
 unfolding advance
 advance-runs t e = ap (λ (b : Bool). cond b (closed t) (advanced t)) e
 
@@ -229,7 +229,7 @@ pub record Advanced (t u : State) : Type 0 where
 pub advanced-facts : (t : State) → Advanced t (advanced t)
 unfolding scoreboard issuing
 advanced-facts t =
-    let b = before_issue none (closed t) in
+    let b = before_issue None (closed t) in
     let f : (issue b).front ≡ with_turn false false t.front
     = (aside-issue b).front ∙ (aside-before (closed t)).front ∙ closed-front t in
     record {
@@ -257,7 +257,7 @@ unfolding scoreboard issuing share
 share-after p s = refl
 
 pub count-advanced
-    : (t : State) → ((i : ℕ) → t.offer.writing ≡ some i → OnOffer t.units i) → in_flight-count (advanced t) ≡ in_flight-count t
+    : (t : State) → ((i : ℕ) → t.offer.writing ≡ Some i → OnOffer t.units i) → in_flight-count (advanced t) ≡ in_flight-count t
 count-advanced t h =
-    count-after (issue (before_issue none (closed t))) ∙ count-issue (before_issue none (closed t)) ∙ count-before (closed t)
+    count-after (issue (before_issue None (closed t))) ∙ count-issue (before_issue None (closed t)) ∙ count-before (closed t)
     ∙ count-closed t h

@@ -3,7 +3,7 @@ use Prim.Native.Nat.{ℕ, suc, ◌+◌, ◌≤◌, ◌<◌}
 use native.Mathlib.Omega.{arith}
 use mathlib.Core.Path.{◌≡◌, sym, ◌∙◌, ap, ap₂, subst}
 use mathlib.Core.Bool.{Bool, false, ◌||◌}
-use mathlib.Core.Option.{none, some}
+use Rattle.std.specs.Prelude.{None, Some}
 use mathlib.Core.List.{List, map}
 use lib.ListN.{length}
 use Rattle.laws.specs.Numbers.{max64}
@@ -63,7 +63,7 @@ module _ (s : State) (h : Invariant s) (out : s.front.in_cycle ≡ false) (runni
   unfolding stops
   middle-running = ap₂ ◌||◌ middle-front.1 middle-front.2 ∙ running
 
-  offer-there : (i : ℕ) → middle.offer.writing ≡ some i → OnOffer middle.units i
+  offer-there : (i : ℕ) → middle.offer.writing ≡ Some i → OnOffer middle.units i
   offer-there i e =
       let a = settled_same (start_cycle s).offer.writing (start_cycle s) in
       subst (λ (us : List FunctionalUnit). OnOffer us i) (sym a.units)
@@ -90,7 +90,7 @@ module _ (s : State) (h : Invariant s) (out : s.front.in_cycle ≡ false) (runni
   cycled-facts = subst (Cycled s) (sym cycled-is) facts
     where
       a : Step middle (advanced middle)
-      a = subst (Step middle) (advance-runs middle middle-running) (step-advance none middle)
+      a = subst (Step middle) (advance-runs middle middle-running) (step-advance None middle)
 
       facts : Cycled s (advanced middle)
       facts =

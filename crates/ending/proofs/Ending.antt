@@ -3,7 +3,7 @@ use Prim.Native.Nat.{ℕ, zero, suc, ◌+◌, ◌*◌, ◌≤◌}
 use native.Mathlib.Omega.{arith}
 use mathlib.Core.Path.{◌≡◌, refl, sym, ◌∙◌, ap, subst}
 use mathlib.Core.Bool.{Bool, true, false, cond, false≢true}
-use mathlib.Core.Option.{Option, none, some}
+use Rattle.std.specs.Prelude.{Option, None, Some}
 use mathlib.Core.List.{List}
 use lib.Dec.{ltb}
 use lib.ListN.{length}
@@ -93,18 +93,18 @@ reaches input (suc k) more r t l = go (reaches input k) r t
 -- ── The beginning ───────────────────────────────────────────────────────────
 
 -- The only refusal of this machine is for short cells.
-made-refusal : (lent : ℕ) → make_refusal forecast_shape lent ≡ cond (ltb lent 51200) (some 13) none
+made-refusal : (lent : ℕ) → make_refusal forecast_shape lent ≡ cond (ltb lent 51200) (Some 13) None
 unfolding everything
 made-refusal lent = refl
 
-module _ (input : Text) (cells : List ℕ) (p : make_refusal forecast_shape (length cells) ≡ none) where
+module _ (input : Text) (cells : List ℕ) (p : make_refusal forecast_shape (length cells) ≡ None) where
   abbrev first-engine : Lent
   first-engine = play (overlap true) (lent_of (new forecast_shape 0) (make_memory forecast_shape cells))
 
   cells-long : 51200 ≤ length cells
   cells-long = go (ltb (length cells) 51200) refl (sym (made-refusal (length cells)) ∙ p)
     where
-      go : (b : Bool) → ltb (length cells) 51200 ≡ b → cond {A = Option ℕ} b (some 13) none ≡ none → 51200 ≤ length cells
+      go : (b : Bool) → ltb (length cells) 51200 ≡ b → cond {A = Option ℕ} b (Some 13) None ≡ None → 51200 ≤ length cells
       go true e q = none-some 13 (sym q)
       go false e q = ltb-false (length cells) 51200 e
 
@@ -142,12 +142,12 @@ begun-turned input cells = go (make_refusal forecast_shape (length cells)) refl
     go
         : (o : Option ℕ) → make_refusal forecast_shape (length cells) ≡ o
         → Turned input (suc (25 * line_count input)) (begun_made (when_some o (made (new forecast_shape 0)) no_machine) input cells)
-    go (some r) p = over (not_made r cells) (thirteen (ltb (length cells) 51200) (sym (made-refusal (length cells)) ∙ p))
+    go (Some r) p = over (not_made r cells) (thirteen (ltb (length cells) 51200) (sym (made-refusal (length cells)) ∙ p))
       where
-        thirteen : (b : Bool) → cond {A = Option ℕ} b (some 13) none ≡ some r → r ≡ 13
+        thirteen : (b : Bool) → cond {A = Option ℕ} b (Some 13) None ≡ Some r → r ≡ 13
         thirteen true e = sym (some_inj 13 r e)
         thirteen false e = none-some r e
-    go none p = at (excess input)
+    go None p = at (excess input)
       where
         at
             : (b : Bool)

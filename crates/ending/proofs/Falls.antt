@@ -4,12 +4,11 @@ use Prim.Native.Nat.{ℕ, ◌+◌, ◌≤◌, ◌<◌}
 use native.Mathlib.Omega.{arith}
 use mathlib.Core.Path.{◌≡◌, refl, sym, ◌∙◌, ap, ap₂, subst}
 use mathlib.Core.Bool.{Bool, true, false, cond, true≢false}
-use mathlib.Core.Option.{Option, none, some}
+use Rattle.std.specs.Prelude.{Option, None, Some, slice_get}
 use mathlib.Core.List.{List, [], ◌∷◌, map}
 use mathlib.Core.Logic.{◌⊎◌, inl, inr}
 use lib.Dec.{eqb}
 use borrow.Author.Tests.{eqb-true, eqb-false}
-use Rattle.laws.specs.Lists.{nth}
 use Rattle.laws.proofs.Choices.{none-some, some_inj}
 use Rattle.model.specs.Op.{Op, with_hazard}
 use Rattle.model.specs.State.{State}
@@ -46,12 +45,12 @@ module _ (p : ℕ → Bool) (down : Down p) where
 
   no_units
       : (us : List FunctionalUnit)
-      → ((j : ℕ) (v : FunctionalUnit) → nth us j ≡ some v → v.busy ≡ true → p v.op.core.seq ≡ false) → total (unit-share p) us ≡ 0
+      → ((j : ℕ) (v : FunctionalUnit) → slice_get us j ≡ Some v → v.busy ≡ true → p v.op.core.seq ≡ false) → total (unit-share p) us ≡ 0
   unfolding unit-share unit-work
   no_units us h = total-zero (unit-share p) us (λ j v e. go j v e v.busy refl)
     where
       go
-          : (j : ℕ) (v : FunctionalUnit) → nth us j ≡ some v → (b : Bool) → v.busy ≡ b
+          : (j : ℕ) (v : FunctionalUnit) → slice_get us j ≡ Some v → (b : Bool) → v.busy ≡ b
           → cond (p v.op.core.seq) (cond b (phase-work v.phase v.op.core.cycles_left) 0) 0 ≡ 0
       go j v e false t = counted_none (p v.op.core.seq)
       go j v e true t = ap (λ (x : Bool). cond x (phase-work v.phase v.op.core.cycles_left) 0) (h j v e t)
@@ -81,7 +80,7 @@ module _ (p : ℕ → Bool) (down : Down p) where
     abbrev last : State
     last = advanced (middle s h out)
 
-    no_offer : s.offer.writing ≡ none
+    no_offer : s.offer.writing ≡ None
     no_offer = no-cycle s (kept_of s h).flight out
 
     rest-most : share p last ≤ share p (before s h out)
@@ -108,7 +107,7 @@ module _ (p : ℕ → Bool) (down : Down p) where
       least : (j : ℕ) (v : FunctionalUnit) → Holds s j v → u.op.core.seq ≤ v.op.core.seq
       least j v k = o.least j v k.there (holds-busy s no_offer j v k)
 
-      offered-now : found s ≡ some i → share p last < share p s
+      offered-now : found s ≡ Some i → share p last < share p s
       offered-now e =
           let w = still-finished s i e in
           let v = stands s h out i u o.at in
@@ -117,7 +116,7 @@ module _ (p : ℕ → Bool) (down : Down p) where
           = ap (λ (x : FunctionalUnit). p x.op.core.seq) (sym same) ∙ ap (λ (z : Part). p z.3) v.2 ∙ t in
           omega (arith, rest-most, before-most, share-started-less s p i w.0 e w.1 w.2 w.3 n)
 
-      goes_on : (found s ≡ some i → ⊥) → share p last < share p s
+      goes_on : (found s ≡ Some i → ⊥) → share p last < share p s
       unfolding writing
       goes_on n =
           let waits = oldest-unwaiting s h no_offer i u held least in
@@ -134,20 +133,20 @@ module _ (p : ℕ → Bool) (down : Down p) where
       oldest-falls = go (found s) refl
         where
           go : (f : Option ℕ) → found s ≡ f → share p last < share p s
-          go none e = goes_on (λ q. none-some i (sym e ∙ q))
-          go (some j) e = at (eqb j i) refl
+          go None e = goes_on (λ q. none-some i (sym e ∙ q))
+          go (Some j) e = at (eqb j i) refl
             where
               at : (b : Bool) → eqb j i ≡ b → share p last < share p s
-              at true b = offered-now (e ∙ ap (λ (x : ℕ). some x) (eqb-true j i b))
+              at true b = offered-now (e ∙ ap (λ (x : ℕ). Some x) (eqb-true j i b))
               at false b = goes_on (λ q. eqb-false j i b (some_inj j i (sym e ∙ q)))
 
     -- No unit is busy: the first of the queue issues.
-    none-offered : Quiet (cleared s) → found s ≡ none
+    none-offered : Quiet (cleared s) → found s ≡ None
     none-offered q = go (found s) refl
       where
-        go : (f : Option ℕ) → found s ≡ f → f ≡ none
-        go none e = refl
-        go (some i) e =
+        go : (f : Option ℕ) → found s ≡ f → f ≡ None
+        go None e = refl
+        go (Some i) e =
             let f = still-finished s i e in
             absurd
             (true≢false
@@ -162,15 +161,15 @@ module _ (p : ℕ → Bool) (down : Down p) where
         quiet-before (closed m)
         (subst Quiet (sym (closed-marked s h out e)) (quiet-marked (writable_unit (cleared s)).turned_away (cleared s) q)) in
         let less =
-        share-issue-less p (before s h out) (with_hazard none o) (map (with_hazard none) rest) front-of-queue t (clear-before s h out quiet) in
+        share-issue-less p (before s h out) (with_hazard None o) (map (with_hazard None) rest) front-of-queue t (clear-before s h out quiet) in
         omega (arith, share-after p (issue (before s h out)), less, before-most, share-started s p)
       where
-        front-of-queue : (before s h out).queue ≡ with_hazard none o ∷ map (with_hazard none) rest
+        front-of-queue : (before s h out).queue ≡ with_hazard None o ∷ map (with_hazard None) rest
         front-of-queue =
             queue-before (closed (middle s h out)) ∙ closed-queue (middle s h out)
             ∙ (settled_same (start_cycle s).offer.writing (start_cycle s)).queue
             ∙ queue-started s
-            ∙ ap (map (with_hazard none)) k
+            ∙ ap (map (with_hazard None)) k
 
     pub share-falls : 0 < share p s → share p last < share p s
     unfolding share units total

@@ -3,10 +3,10 @@ use Prim.Native.Nat.{ℕ, zero, suc, ◌≤◌, ◌<◌}
 use native.Mathlib.Omega.{arith}
 use mathlib.Core.Path.{◌≡◌, refl, sym, ◌∙◌, ap, subst}
 use mathlib.Core.Bool.{Bool, true, false, cond, true≢false}
-use mathlib.Core.Option.{Option, none, some}
+use Rattle.std.specs.Prelude.{Option, None, Some, slice_get}
 use mathlib.Core.List.{List, [], ◌∷◌}
 use mathlib.Core.Logic.{◌⊎◌, inl, inr}
-use Rattle.laws.specs.Lists.{All, nth}
+use Rattle.laws.specs.Lists.{All}
 use Rattle.laws.proofs.Choices.{none-some, some_inj}
 use Rattle.laws.proofs.Tests.{lt-or-ge}
 use Rattle.model.specs.Units.{FunctionalUnit}
@@ -20,26 +20,25 @@ use Rattle.invariant.proofs.Entries.{entry, entry_at, entry-held}
 
 -- Unit i is u, it is busy, and no busy unit is older.
 pub record Oldest (us : List FunctionalUnit) (i : ℕ) (u : FunctionalUnit) : Type 0 where
-  pub at : nth us i ≡ some u
+  pub at : slice_get us i ≡ Some u
   pub busy : u.busy ≡ true
-  pub least : (j : ℕ) (v : FunctionalUnit) → nth us j ≡ some v → v.busy ≡ true → u.op.core.seq ≤ v.op.core.seq
+  pub least : (j : ℕ) (v : FunctionalUnit) → slice_get us j ≡ Some v → v.busy ≡ true → u.op.core.seq ≤ v.op.core.seq
 
 abbrev pub Quiet : List FunctionalUnit → Type 0
 Quiet us = All (λ (u : FunctionalUnit). u.busy ≡ false) us
 
 -- None is busy, or one is the oldest.
 pub quiet-or-oldest : (us : List FunctionalUnit) → Quiet us ⊎ ((i : ℕ) × (u : FunctionalUnit) × Oldest us i u)
-unfolding nth
 quiet-or-oldest [] = inl tt
 quiet-or-oldest (x ∷ xs) = go x.busy refl (quiet-or-oldest xs)
   where
-    none-busy : Quiet xs → (j : ℕ) (v : FunctionalUnit) → nth xs j ≡ some v → v.busy ≡ true → ⊥
+    none-busy : Quiet xs → (j : ℕ) (v : FunctionalUnit) → slice_get xs j ≡ Some v → v.busy ≡ true → ⊥
     none-busy q j v e b = true≢false (sym b ∙ all-at (λ (u : FunctionalUnit). u.busy ≡ false) xs j v e q)
 
     alone : x.busy ≡ true → Quiet xs → Oldest (x ∷ xs) 0 x
     alone b q = record { at = refl; busy = b; least = go }
       where
-        go : (j : ℕ) (v : FunctionalUnit) → nth (x ∷ xs) j ≡ some v → v.busy ≡ true → x.op.core.seq ≤ v.op.core.seq
+        go : (j : ℕ) (v : FunctionalUnit) → slice_get (x ∷ xs) j ≡ Some v → v.busy ≡ true → x.op.core.seq ≤ v.op.core.seq
         go zero v e t = let q : x.op.core.seq ≡ v.op.core.seq = ap (λ (u : FunctionalUnit). u.op.core.seq) (some_inj x v e) in omega arith
         go (suc j) v e t = absurd (none-busy q j v e t)
 
@@ -47,14 +46,14 @@ quiet-or-oldest (x ∷ xs) = go x.busy refl (quiet-or-oldest xs)
         : x.busy ≡ true → (i : ℕ) (u : FunctionalUnit) → Oldest xs i u → x.op.core.seq < u.op.core.seq → Oldest (x ∷ xs) 0 x
     first b i u o l = record { at = refl; busy = b; least = go }
       where
-        go : (j : ℕ) (v : FunctionalUnit) → nth (x ∷ xs) j ≡ some v → v.busy ≡ true → x.op.core.seq ≤ v.op.core.seq
+        go : (j : ℕ) (v : FunctionalUnit) → slice_get (x ∷ xs) j ≡ Some v → v.busy ≡ true → x.op.core.seq ≤ v.op.core.seq
         go zero v e t = let q : x.op.core.seq ≡ v.op.core.seq = ap (λ (u : FunctionalUnit). u.op.core.seq) (some_inj x v e) in omega arith
         go (suc j) v e t = omega (arith, l, o.least j v e t)
 
     later : (i : ℕ) (u : FunctionalUnit) → Oldest xs i u → (x.busy ≡ true → u.op.core.seq ≤ x.op.core.seq) → Oldest (x ∷ xs) (suc i) u
     later i u o l = record { at = o.at; busy = o.busy; least = go }
       where
-        go : (j : ℕ) (v : FunctionalUnit) → nth (x ∷ xs) j ≡ some v → v.busy ≡ true → u.op.core.seq ≤ v.op.core.seq
+        go : (j : ℕ) (v : FunctionalUnit) → slice_get (x ∷ xs) j ≡ Some v → v.busy ≡ true → u.op.core.seq ≤ v.op.core.seq
         go zero v e t =
             let q = some_inj x v e in
             let s : x.op.core.seq ≡ v.op.core.seq = ap (λ (y : FunctionalUnit). y.op.core.seq) q in
@@ -83,23 +82,23 @@ module _
     (p : ℕ → Option ℕ)
     (b y : Bool)
     (lo : ℕ)
-    (h : Consistent (λ j. entry_at none j (nth us j)) p b y lo)
+    (h : Consistent (λ j. entry_at None j (slice_get us j)) p b y lo)
     (i : ℕ)
     (u : FunctionalUnit)
     (o : Oldest us i u)
   where
-    held : (j : ℕ) (v : FunctionalUnit) → nth us j ≡ some v → v.busy ≡ true → entry_at none j (nth us j) ≡ some (entry v)
-    held j v e t = ap (entry_at none j) e ∙ entry-held none j v (or-false v.busy ∙ t)
+    held : (j : ℕ) (v : FunctionalUnit) → slice_get us j ≡ Some v → v.busy ≡ true → entry_at None j (slice_get us j) ≡ Some (entry v)
+    held j v e t = ap (entry_at None j) e ∙ entry-held None j v (or-false v.busy ∙ t)
 
     -- What is in flight is not older.
-    not-older : (k : ℕ) (f : Entry) → entry_at none k (nth us k) ≡ some f → u.op.core.seq ≤ f.seq
-    not-older k f e = go (nth us k) refl e
+    not-older : (k : ℕ) (f : Entry) → entry_at None k (slice_get us k) ≡ Some f → u.op.core.seq ≤ f.seq
+    not-older k f e = go (slice_get us k) refl e
       where
-        go : (x : Option FunctionalUnit) → nth us k ≡ x → entry_at none k x ≡ some f → u.op.core.seq ≤ f.seq
-        go none q z = none-some f z
-        go (some v) q z = at v.busy refl (sym (ap (λ (t : Bool). cond t (some (entry v)) none) (or-false v.busy)) ∙ z)
+        go : (x : Option FunctionalUnit) → slice_get us k ≡ x → entry_at None k x ≡ Some f → u.op.core.seq ≤ f.seq
+        go None q z = none-some f z
+        go (Some v) q z = at v.busy refl (sym (ap (λ (t : Bool). cond t (Some (entry v)) None) (or-false v.busy)) ∙ z)
           where
-            at : (t : Bool) → v.busy ≡ t → cond t (some (entry v)) none ≡ some f → u.op.core.seq ≤ f.seq
+            at : (t : Bool) → v.busy ≡ t → cond t (Some (entry v)) None ≡ Some f → u.op.core.seq ≤ f.seq
             at false t r = none-some f r
             at true t r =
                 let s : v.op.core.seq ≡ f.seq = ap (λ (x : Entry). x.seq) (some_inj (entry v) f r) in

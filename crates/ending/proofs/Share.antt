@@ -3,10 +3,10 @@ use Prim.Native.Nat.{ℕ, ◌+◌, ◌-◌, ◌≤◌, ◌<◌}
 use native.Mathlib.Omega.{arith}
 use mathlib.Core.Path.{◌≡◌, refl, sym, ◌∙◌, ap, ap₂, subst}
 use mathlib.Core.Bool.{Bool, true, false, cond, not, ◌&&◌, ◌||◌, false≢true, true≢false}
-use mathlib.Core.Option.{Option, none, some}
+use Rattle.std.specs.Prelude.{Option, None, Some, slice_get, is_some}
 use mathlib.Core.List.{List, [], ◌∷◌, map}
-use Rattle.laws.specs.Lists.{any, is_empty, modify, nth}
-use Rattle.laws.specs.Optional.{is_some}
+use Rattle.laws.specs.Lists.{is_empty, modify}
+use Rattle.std.specs.List.{list_any}
 use Rattle.laws.specs.Texts.{Text}
 use Rattle.laws.proofs.Choices.{none-some}
 use Rattle.capability.specs.declared.PipelineHazardKind.{PipelineHazardKind}
@@ -29,13 +29,13 @@ use Rattle.ending.proofs.Work.{map-three, op-work, phase-work, three, unit-work,
 pub record Clear (s : State) : Type 0 where
   pub no_branch : s.marks.branch ≡ false
   pub no_system : s.marks.system ≡ false
-  pub unclaimed : (r : ℕ) → producer_of s.producer r ≡ none
-  pub free : (o : Op) → (i : ℕ) × (free_unit s.machine.specs s.units o.core.decoded.class ≡ some i)
+  pub unclaimed : (r : ℕ) → producer_of s.producer r ≡ None
+  pub free : (o : Op) → (i : ℕ) × (free_unit s.machine.specs s.units o.core.decoded.class ≡ Some i)
 
-none-taken : (ps : List (Option ℕ)) → ((r : ℕ) → producer_of ps r ≡ none) → (ws : List ℕ) → taken ps ws ≡ none
+none-taken : (ps : List (Option ℕ)) → ((r : ℕ) → producer_of ps r ≡ None) → (ws : List ℕ) → taken ps ws ≡ None
 unfolding issuing
 none-taken ps h [] = refl
-none-taken ps h (r ∷ rs) = ap (λ (x : Option ℕ). cond (is_some x) (some r) (taken ps rs)) (h r) ∙ none-taken ps h rs
+none-taken ps h (r ∷ rs) = ap (λ (x : Option ℕ). cond (is_some x) (Some r) (taken ps rs)) (h r) ∙ none-taken ps h rs
 
 -- What is counted where b holds.
 counted : (b : Bool) (m n : ℕ) → m ≤ n → cond b m 0 ≤ cond b n 0
@@ -83,7 +83,7 @@ module _ (p : ℕ → Bool) where
       total-modify unit-share (with_busy false) (λ u. counted (p u.op.core.seq) 0 (unit-work u) (omega arith)) i us
 
   pub share-out-less
-      : (us : List FunctionalUnit) (i : ℕ) (u : FunctionalUnit) → nth us i ≡ some u → u.busy ≡ true → u.phase ≡ Write
+      : (us : List FunctionalUnit) (i : ℕ) (u : FunctionalUnit) → slice_get us i ≡ Some u → u.busy ≡ true → u.phase ≡ Write
       → p u.op.core.seq ≡ true → units-share (modify i (with_busy false) us) < units-share us
   unfolding unit-work unit-share phase-work
   share-out-less us i u e b w t =
@@ -112,22 +112,22 @@ module _ (p : ℕ → Bool) where
       cleared u = let z : unit-share (clear u) ≡ 0 = counted_none (p (clear u).op.core.seq) in omega (arith, z)
 
       go : (w : Option ℕ) → share (close_cycle (complete_offer w s)) ≤ share s
-      go none = omega arith
-      go (some i) =
+      go None = omega arith
+      go (Some i) =
           omega (
             arith,
             total-map-same unit-share (without_waits i) (λ u. refl) (modify i clear s.units),
             total-modify unit-share clear cleared i s.units,
           )
 
-  pub share-before : (s : State) → share (before_issue none s) ≤ share s
+  pub share-before : (s : State) → share (before_issue None s) ≤ share s
   unfolding scoreboard issuing share
   share-before s =
       omega (arith, ap units-share (map-three s.units), total-map unit-share three share-three s.units)
 
   pub share-before-less
-      : (s : State) (i : ℕ) (u : FunctionalUnit) → nth s.units i ≡ some u → u.busy ≡ true → u.pending ≡ [] → (u.phase ≡ Write → ⊥)
-      → p u.op.core.seq ≡ true → share (before_issue none s) < share s
+      : (s : State) (i : ℕ) (u : FunctionalUnit) → slice_get s.units i ≡ Some u → u.busy ≡ true → u.pending ≡ [] → (u.phase ≡ Write → ⊥)
+      → p u.op.core.seq ≡ true → share (before_issue None s) < share s
   unfolding scoreboard issuing share
   share-before-less s i u e b w n t =
       omega (
@@ -138,7 +138,7 @@ module _ (p : ℕ → Bool) where
 
   share-blocked : (x : PipelineHazardKind) (d : Detail) (s : State) → share (block_issue x d s) ≤ share s
   unfolding issuing share op-work op-share
-  share-blocked x d s = omega (arith, total-modify-same op-share (with_hazard (some x)) (λ o. refl) 0 s.queue)
+  share-blocked x d s = omega (arith, total-modify-same op-share (with_hazard (Some x)) (λ o. refl) 0 s.queue)
 
   -- Issued, an operation needs one cycle less.
   abbrev issued-share : Op → ℕ
@@ -146,7 +146,7 @@ module _ (p : ℕ → Bool) where
 
   placed
       : (o : Op) (rest : List Op) (r w : List ℕ) (i : ℕ) (s : State) → s.queue ≡ o ∷ rest
-      → share (issue_to o rest r w none (some i) s) + op-share o ≤ share s + issued-share o
+      → share (issue_to o rest r w None (Some i) s) + op-share o ≤ share s + issued-share o
   unfolding issuing share units unit-work phase-work unit-share total
   placed o rest r w i s q =
       let x : total op-share s.queue ≡ op-share o + total op-share rest = ap (total op-share) q in
@@ -158,7 +158,7 @@ module _ (p : ℕ → Bool) where
 
   share-placed
       : (o : Op) (rest : List Op) (r w : List ℕ) (i : ℕ) (s : State) → s.queue ≡ o ∷ rest
-      → share (issue_to o rest r w none (some i) s) ≤ share s
+      → share (issue_to o rest r w None (Some i) s) ≤ share s
   unfolding op-share op-work
   share-placed o rest r w i s q =
       omega (
@@ -169,7 +169,7 @@ module _ (p : ℕ → Bool) where
 
   share-placed-less
       : (o : Op) (rest : List Op) (r w : List ℕ) (i : ℕ) (s : State) → s.queue ≡ o ∷ rest → p o.core.seq ≡ true
-      → share (issue_to o rest r w none (some i) s) < share s
+      → share (issue_to o rest r w None (Some i) s) < share s
   unfolding op-share op-work
   share-placed-less o rest r w i s q t =
       omega (
@@ -182,9 +182,9 @@ module _ (p : ℕ → Bool) where
       : (o : Op) (rest : List Op) (r w : List ℕ) (t f : Option ℕ) (s : State) → s.queue ≡ o ∷ rest
       → share (issue_to o rest r w t f s) ≤ share s
   unfolding issuing
-  share-to o rest r w (some x) f s q = share-blocked WriteAfterWrite _ s
-  share-to o rest r w none none s q = share-blocked FunctionalUnitBusy _ s
-  share-to o rest r w none (some i) s q = share-placed o rest r w i s q
+  share-to o rest r w (Some x) f s q = share-blocked WriteAfterWrite _ s
+  share-to o rest r w None None s q = share-blocked FunctionalUnitBusy _ s
+  share-to o rest r w None (Some i) s q = share-placed o rest r w i s q
 
   share-learned : (ns : List Text) (s : State) → share (learn ns s) ≡ share s
   unfolding issuing share
@@ -211,11 +211,11 @@ module _ (p : ℕ → Bool) where
       go (o ∷ rest) e = share-choose s.marks.branch s.marks.system o rest s e
 
   share-to-less
-      : (o : Op) (rest : List Op) (r w : List ℕ) (t f : Option ℕ) (s : State) → s.queue ≡ o ∷ rest → p o.core.seq ≡ true → t ≡ none
-      → (i : ℕ) → f ≡ some i → share (issue_to o rest r w t f s) < share s
-  share-to-less o rest r w (some x) f s q n e i g = none-some x (sym e)
-  share-to-less o rest r w none none s q n e i g = none-some i g
-  share-to-less o rest r w none (some j) s q n e i g = share-placed-less o rest r w j s q n
+      : (o : Op) (rest : List Op) (r w : List ℕ) (t f : Option ℕ) (s : State) → s.queue ≡ o ∷ rest → p o.core.seq ≡ true → t ≡ None
+      → (i : ℕ) → f ≡ Some i → share (issue_to o rest r w t f s) < share s
+  share-to-less o rest r w (Some x) f s q n e i g = none-some x (sym e)
+  share-to-less o rest r w None None s q n e i g = none-some i g
+  share-to-less o rest r w None (Some j) s q n e i g = share-placed-less o rest r w j s q n
 
   pub share-issue-less
       : (s : State) (o : Op) (rest : List Op) → s.queue ≡ o ∷ rest → p o.core.seq ≡ true → Clear s → share (issue s) < share s
@@ -241,13 +241,13 @@ everyone n = true
 abbrev pub work : State → ℕ
 work s = share everyone s
 
-busy-work : (us : List FunctionalUnit) → any is_busy us ≡ true → 0 < total (unit-share everyone) us
-unfolding any units unit-work phase-work unit-share total
+busy-work : (us : List FunctionalUnit) → list_any is_busy us ≡ true → 0 < total (unit-share everyone) us
+unfolding units unit-work phase-work unit-share total
 busy-work [] e = absurd (false≢true e)
 busy-work (u ∷ us) e = go u.busy u.phase e (busy-work us)
   where
     go
-        : (b : Bool) (q : Phase) → (b || any is_busy us) ≡ true → (any is_busy us ≡ true → 0 < total (unit-share everyone) us)
+        : (b : Bool) (q : Phase) → (b || list_any is_busy us) ≡ true → (list_any is_busy us ≡ true → 0 < total (unit-share everyone) us)
         → 0 < cond b (phase-work q u.op.core.cycles_left) 0 + total (unit-share everyone) us
     go true Wait e h = omega arith
     go true Read e h = omega arith
@@ -258,10 +258,10 @@ busy-work (u ∷ us) e = go u.busy u.phase e (busy-work us)
 -- While anything is in flight there is work.
 pub some-work : (s : State) → idle s ≡ false → 0 < work s
 unfolding scoreboard is_empty share op-share op-work total
-some-work s n = go s.queue (any is_busy s.units) refl n
+some-work s n = go s.queue (list_any is_busy s.units) refl n
   where
     go
-        : (q : List Op) (b : Bool) → any is_busy s.units ≡ b → (is_empty q && not b) ≡ false
+        : (q : List Op) (b : Bool) → list_any is_busy s.units ≡ b → (is_empty q && not b) ≡ false
         → 0 < total (op-share everyone) q + total (unit-share everyone) s.units
     go (o ∷ os) b e f = omega arith
     go [] true e f = omega (arith, busy-work s.units e)

@@ -2,9 +2,9 @@
 use Prim.Native.Nat.{ℕ, zero, suc, ◌+◌, ◌≤◌, ◌<◌}
 use native.Mathlib.Omega.{arith}
 use mathlib.Core.Path.{◌≡◌, refl, ap}
-use mathlib.Core.Option.{some}
+use Rattle.std.specs.Prelude.{Some, slice_get}
 use mathlib.Core.List.{List, [], ◌∷◌, ◌++◌, map}
-use Rattle.laws.specs.Lists.{modify, nth}
+use Rattle.laws.specs.Lists.{modify}
 use Rattle.laws.proofs.Choices.{none-some, some_inj}
 
 module _ {A : Type 0} (w : A → ℕ) where
@@ -23,9 +23,9 @@ module _ {A : Type 0} (w : A → ℕ) where
   total-map f h (x ∷ xs) = omega (arith, h x, total-map f h xs)
 
   pub total-map-less
-      : (f : A → A) → ((x : A) → w (f x) ≤ w x) → (xs : List A) (i : ℕ) (a : A) → nth xs i ≡ some a → w (f a) < w a
+      : (f : A → A) → ((x : A) → w (f x) ≤ w x) → (xs : List A) (i : ℕ) (a : A) → slice_get xs i ≡ Some a → w (f a) < w a
       → total (map f xs) < total xs
-  unfolding nth total
+  unfolding total
   total-map-less f h [] i a e l = none-some a e
   total-map-less f h (x ∷ xs) zero a e l =
       let q : w x ≡ w a = ap w (some_inj x a e) in
@@ -59,8 +59,8 @@ module _ {A : Type 0} (w : A → ℕ) where
 
   -- One element is changed, whatever it becomes.
   pub total-modify-at
-      : (f : A → A) (i : ℕ) (xs : List A) (a : A) → nth xs i ≡ some a → total (modify i f xs) + w a ≡ total xs + w (f a)
-  unfolding modify nth total
+      : (f : A → A) (i : ℕ) (xs : List A) (a : A) → slice_get xs i ≡ Some a → total (modify i f xs) + w a ≡ total xs + w (f a)
+  unfolding modify total
   total-modify-at f i [] a e = none-some a e
   total-modify-at f zero (x ∷ xs) a e =
       let q : w x ≡ w a = ap w (some_inj x a e) in
@@ -68,7 +68,7 @@ module _ {A : Type 0} (w : A → ℕ) where
       omega (arith, q, r)
   total-modify-at f (suc i) (x ∷ xs) a e = omega (arith, total-modify-at f i xs a e)
 
-  pub total-zero : (xs : List A) → ((i : ℕ) (a : A) → nth xs i ≡ some a → w a ≡ 0) → total xs ≡ 0
-  unfolding nth total
+  pub total-zero : (xs : List A) → ((i : ℕ) (a : A) → slice_get xs i ≡ Some a → w a ≡ 0) → total xs ≡ 0
+  unfolding total
   total-zero [] h = refl
   total-zero (x ∷ xs) h = omega (arith, h 0 x refl, total-zero xs (λ i a e. h (suc i) a e))

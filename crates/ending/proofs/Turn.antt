@@ -3,13 +3,13 @@ use Prim.Native.Nat.{ℕ, suc, ◌+◌, ◌*◌, ◌≤◌, ◌<◌}
 use native.Mathlib.Omega.{arith}
 use mathlib.Core.Path.{◌≡◌, refl, sym, ◌∙◌, ap, ap₂, subst}
 use mathlib.Core.Bool.{Bool, true, false, cond, not, ◌&&◌, ◌||◌, false≢true}
-use mathlib.Core.Option.{Option, none, some}
+use Rattle.std.specs.Prelude.{Option, None, Some, is_some}
 use mathlib.Core.List.{List, [], ◌∷◌}
 use lib.Dec.{eqb}
 use lib.ListN.{length, length-append}
 use borrow.Author.Tests.{le-ltb, lt-ltb}
-use Rattle.laws.specs.Lists.{any, is_empty}
-use Rattle.laws.specs.Optional.{is_some}
+use Rattle.laws.specs.Lists.{is_empty}
+use Rattle.std.specs.List.{list_any}
 use Rattle.laws.specs.Texts.{Text, beyond}
 use Rattle.laws.proofs.Choices.{none-some}
 use Rattle.capability.specs.declared.PipelineInstructionClass.{PipelineInstructionClass}
@@ -68,19 +68,19 @@ lines-most (x ∷ y ∷ ys) = go (eqb x 10) (lines-most (y ∷ ys))
 
 -- ── Nothing in flight ───────────────────────────────────────────────────────
 
-none-counted : (us : List FunctionalUnit) → any is_busy us ≡ false → total one-busy us ≡ 0
-unfolding any total one-busy units
+none-counted : (us : List FunctionalUnit) → list_any is_busy us ≡ false → total one-busy us ≡ 0
+unfolding total one-busy units
 none-counted [] e = refl
 none-counted (u ∷ us) e =
-    let a = or-neither u.busy (any is_busy us) e in
+    let a = or-neither u.busy (list_any is_busy us) e in
     let b : one-busy u ≡ 0 = ap (λ (t : Bool). cond t 1 0) a.0 in
     omega (arith, b, none-counted us a.1)
 
-idle-parts : (s : State) → idle s ≡ true → (s.queue ≡ []) × (any is_busy s.units ≡ false)
+idle-parts : (s : State) → idle s ≡ true → (s.queue ≡ []) × (list_any is_busy s.units ≡ false)
 unfolding scoreboard is_empty
 idle-parts s e =
-    let a = and_both (is_empty s.queue) (not (any is_busy s.units)) e in
-    (go s.queue a.0, not-true (any is_busy s.units) a.1)
+    let a = and_both (is_empty s.queue) (not (list_any is_busy s.units)) e in
+    (go s.queue a.0, not-true (list_any is_busy s.units) a.1)
   where
     go : (q : List Op) → is_empty q ≡ true → q ≡ []
     go [] t = refl
@@ -144,13 +144,13 @@ unfolding scoreboard
 fetched-cycles g s = refl
 
 fetched-number
-    : (g : Given) (k : ℕ) (s : State) → Invariant s → refusal s (fetch g k) ≡ none
+    : (g : Given) (k : ℕ) (s : State) → Invariant s → refusal s (fetch g k) ≡ None
     → (fetched g s).front.next_seq ≡ suc s.front.next_seq
 unfolding scoreboard
 fetched-number g k s h p = next-number s.front.next_seq h.next_few (fetch-taken s g k p).number
 
 pub fetch-played
-    : (g : Given) (k : ℕ) (s : State) (m : List ℕ) → refusal s (fetch g k) ≡ none
+    : (g : Given) (k : ℕ) (s : State) (m : List ℕ) → refusal s (fetch g k) ≡ None
     → play (fetch g k) (lent_of s m) ≡ lent_of (fetched g s) (write_all (sets s (fetch g k)) m)
 unfolding run
 fetch-played g k s m p = play-taken (fetch g k) s m p
@@ -204,7 +204,7 @@ pub record After (input : Text) (e f : Lent) (rest : Text) (n : ℕ) : Type 0 wh
 cycle-invariant : (e : Lent) → Invariant e.engine → Invariant (cycle e).engine
 unfolding forecasts
 cycle-invariant e h =
-    invariant-kept (retire_offer (play start e)).engine (advance none (length e.cells)) (retired (play start e) (invariant-kept e.engine start h))
+    invariant-kept (retire_offer (play start e)).engine (advance None (length e.cells)) (retired (play start e) (invariant-kept e.engine start h))
   where
     retired : (f : Lent) → Invariant f.engine → Invariant (retire_offer f).engine
     retired f k = go (is_some (offered_op f.engine))
@@ -291,7 +291,7 @@ module _ (input : Text) (e : Lent) (rest : Text) (n : ℕ) (h : Between input e 
 
   -- A line is taken.
   turn-fetched
-      : (g : Given) (k : ℕ) (x : ℕ) (xs : Text) → rest ≡ x ∷ xs → refusal (cycle e).engine (fetch g k) ≡ none
+      : (g : Given) (k : ℕ) (x : ℕ) (xs : Text) → rest ≡ x ∷ xs → refusal (cycle e).engine (fetch g k) ≡ None
       → Turned input (left e rest) (going (play (fetch g k) (cycle e)) (other_lines (x ∷ xs)) (suc n))
   unfolding left play
   turn-fetched g k x xs q p =
@@ -339,14 +339,14 @@ module _ (input : Text) (e : Lent) (rest : Text) (n : ℕ) (h : Between input e 
       : (x : ℕ) (xs : Text) → rest ≡ x ∷ xs → (a : ℕ) (o : Option Line)
       → Turned input (left e rest) (take_parsed o a (other_lines (x ∷ xs)) (suc n) (cycle e))
   unfolding take_parsed fetch_line take_fetched
-  take-turned x xs q a none = over (line_refused (suc n) 14 (cycle e).cells) (refused-line x xs q)
-  take-turned x xs q a (some l) = go (refusal (cycle e).engine (fetch_line l a (cycle e))) refl
+  take-turned x xs q a None = over (line_refused (suc n) 14 (cycle e).cells) (refused-line x xs q)
+  take-turned x xs q a (Some l) = go (refusal (cycle e).engine (fetch_line l a (cycle e))) refl
     where
       go
           : (r : Option ℕ) → refusal (cycle e).engine (fetch_line l a (cycle e)) ≡ r
           → Turned input (left e rest) (take_fetched r (fetch_line l a (cycle e)) (other_lines (x ∷ xs)) (suc n) (cycle e))
-      go (some m) p = over (line_refused (suc n) m (cycle e).cells) (refused-line x xs q)
-      go none p = turn-fetched (line_given l a) (length (cycle e).cells) x xs q p
+      go (Some m) p = over (line_refused (suc n) m (cycle e).cells) (refused-line x xs q)
+      go None p = turn-fetched (line_given l a) (length (cycle e).cells) x xs q p
 
   pub turned : Turned input (left e rest) (turn e rest n)
   unfolding turn cycle_and_line take_line is_empty invitation_of
@@ -356,20 +356,20 @@ module _ (input : Text) (e : Lent) (rest : Text) (n : ℕ) (h : Between input e 
       busy t k = sym (ap (λ (b : Bool). b && idle e.engine) k) ∙ t
 
       -- Without an invitation something is in flight.
-      uninvited : invitation_of (cycle e).engine ≡ none → (b : Bool) → idle e.engine ≡ b → b ≡ false
+      uninvited : invitation_of (cycle e).engine ≡ None → (b : Bool) → idle e.engine ≡ b → b ≡ false
       uninvited o false i = refl
       uninvited o true i =
           none-some (cycle e).engine.front.fetch_pc
-          (sym o ∙ ap (λ (b : Bool). cond b (some (cycle e).engine.front.fetch_pc) none) (after-cycle.invited i))
+          (sym o ∙ ap (λ (b : Bool). cond b (Some (cycle e).engine.front.fetch_pc) None) (after-cycle.invited i))
 
       line
           : (is_empty rest && idle e.engine) ≡ false → (o : Option ℕ) → invitation_of (cycle e).engine ≡ o → (r : Text) → rest ≡ r
           → Turned input (left e rest) (take_line o r n (cycle e))
-      line t none o r q =
+      line t None o r q =
           subst (λ (y : Text). Turned input (left e rest) (going (cycle e) y n)) q (turn-worked (uninvited o (idle e.engine) refl))
-      line t (some a) o [] q =
+      line t (Some a) o [] q =
           subst (λ (y : Text). Turned input (left e rest) (going (cycle e) y n)) q (turn-worked (busy t (ap is_empty q)))
-      line t (some a) o (x ∷ xs) q = take-turned x xs q a (parse (first_line (x ∷ xs)))
+      line t (Some a) o (x ∷ xs) q = take-turned x xs q a (parse (first_line (x ∷ xs)))
 
       go : (b : Bool) → (is_empty rest && idle e.engine) ≡ b
           → Turned input (left e rest) (elim b [ true ↦ finished e | false ↦ cycle_and_line e rest n ])

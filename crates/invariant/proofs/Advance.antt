@@ -3,7 +3,7 @@ use Prim.Native.Nat.{ℕ, suc, ◌+◌, ◌≤◌}
 use native.Mathlib.Omega.{arith}
 use mathlib.Core.Path.{◌≡◌, refl, ◌∙◌}
 use mathlib.Core.Bool.{Bool, true, false}
-use mathlib.Core.Option.{Option, none, some}
+use Rattle.std.specs.Prelude.{Option, None, Some}
 use mathlib.Core.List.{List, [], ◌∷◌, ◌++◌, map}
 use lib.ListN.{length, length-append}
 use Rattle.laws.specs.Lists.{keep}
@@ -28,7 +28,7 @@ pub record SameFlags (n : ℕ) (s t : State) : Type 0 where
   pub halted : t.front.halted ≡ s.front.halted
   pub faulted : t.front.faulted ≡ s.front.faulted
   -- The status is as it was, or gone.
-  pub status : (x : Text) → t.log.status ≡ some x → s.log.status ≡ some x
+  pub status : (x : Text) → t.log.status ≡ Some x → s.log.status ≡ Some x
   pub traces : length t.log.traces ≤ n + length s.log.traces
 
 flags-on : (m n : ℕ) (r s t : State) → SameFlags m r s → SameFlags n s t → SameFlags (n + m) r t
@@ -68,7 +68,7 @@ waiting_few f us l k h =
 
 pub flags-before : (r : Option ℕ) (s : State) → SameFlags (1 + length s.units) s (before_issue r s)
 unfolding scoreboard issuing stall_all
-flags-before none s =
+flags-before None s =
     record {
       offer = refl;
       in_cycle = refl;
@@ -77,7 +77,7 @@ flags-before none s =
       status = λ x e. none-some x e;
       traces = waiting_few _ s.units (clear_status s).log (length s.log.traces) (omega arith);
     }
-flags-before (some n) s =
+flags-before (Some n) s =
     record {
       offer = refl;
       in_cycle = refl;
@@ -104,9 +104,9 @@ flags-blocked x d s =
 
 flags-to : (o : Op) (rest : List Op) (r w : List ℕ) (t f : Option ℕ) (s : State) → SameFlags 1 s (issue_to o rest r w t f s)
 unfolding issuing
-flags-to o rest r w (some x) f s = flags-blocked WriteAfterWrite _ s
-flags-to o rest r w none none s = flags-blocked FunctionalUnitBusy _ s
-flags-to o rest r w none (some i) s =
+flags-to o rest r w (Some x) f s = flags-blocked WriteAfterWrite _ s
+flags-to o rest r w None None s = flags-blocked FunctionalUnitBusy _ s
+flags-to o rest r w None (Some i) s =
     record { offer = refl; in_cycle = refl; halted = refl; faulted = refl; status = λ x e. e; traces = omega arith }
 
 flags-choose : (b y : Bool) (o : Op) (rest : List Op) (s : State) → SameFlags 1 s (issue_choose b y o rest s)

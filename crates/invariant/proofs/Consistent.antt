@@ -3,7 +3,7 @@ use Prim.Native.Nat.{ℕ, ◌≤◌, ◌<◌}
 use native.Mathlib.Omega.{arith}
 use mathlib.Core.Path.{◌≡◌, refl, sym, ◌∙◌, ap, subst}
 use mathlib.Core.Bool.{Bool, true, false, not, ◌&&◌, false≢true}
-use mathlib.Core.Option.{Option, none, some}
+use Rattle.std.specs.Prelude.{Option, None, Some}
 use mathlib.Core.List.{List}
 use mathlib.Core.Logic.{◌⊎◌, inl, inr}
 use lib.Dec.{eqb}
@@ -27,33 +27,33 @@ pub record Entry : Type 0 where
 
 -- A mark stands exactly while an operation with the flag is in flight, and nothing in flight is younger than that one.
 pub record Marked (m : Bool) (flag : Entry → Bool) (c : ℕ → Option Entry) : Type 0 where
-  pub marks : (i : ℕ) (e : Entry) → c i ≡ some e → flag e ≡ true → m ≡ true
-  pub marked : m ≡ true → (i : ℕ) × (e : Entry) × (c i ≡ some e) × (flag e ≡ true)
-  pub youngest : (i j : ℕ) (e f : Entry) → c i ≡ some e → flag e ≡ true → c j ≡ some f → f.seq ≤ e.seq
+  pub marks : (i : ℕ) (e : Entry) → c i ≡ Some e → flag e ≡ true → m ≡ true
+  pub marked : m ≡ true → (i : ℕ) × (e : Entry) × (c i ≡ Some e) × (flag e ≡ true)
+  pub youngest : (i j : ℕ) (e f : Entry) → c i ≡ Some e → flag e ≡ true → c j ≡ Some f → f.seq ≤ e.seq
 
 -- `c i` is what unit i holds (busy or on offer), `p r` is the unit that claims register r, `b` and `y` are the two marks,
 -- `lo` is the least number that no unit has had yet.
 pub record Consistent (c : ℕ → Option Entry) (p : ℕ → Option ℕ) (b y : Bool) (lo : ℕ) : Type 0 where
   -- Numbers in units are below those to come, and distinct.
-  pub young : (i : ℕ) (e : Entry) → c i ≡ some e → e.seq < lo
-  pub apart : (i j : ℕ) (e f : Entry) → c i ≡ some e → c j ≡ some f → e.seq ≡ f.seq → i ≡ j
+  pub young : (i : ℕ) (e : Entry) → c i ≡ Some e → e.seq < lo
+  pub apart : (i j : ℕ) (e f : Entry) → c i ≡ Some e → c j ≡ Some f → e.seq ≡ f.seq → i ≡ j
   -- A destination in flight is claimed by its unit; a claim is held by a unit in flight that writes it.
-  pub claims : (i : ℕ) (e : Entry) (r : ℕ) → c i ≡ some e → In r e.destinations → p r ≡ some i
-  pub held : (r i : ℕ) → p r ≡ some i → (e : Entry) × (c i ≡ some e) × In r e.destinations
+  pub claims : (i : ℕ) (e : Entry) (r : ℕ) → c i ≡ Some e → In r e.destinations → p r ≡ Some i
+  pub held : (r i : ℕ) → p r ≡ Some i → (e : Entry) × (c i ≡ Some e) × In r e.destinations
   -- A wait for register r by unit k: a source, claimed by k, which is in flight and older.
   pub waits
-      : (i : ℕ) (e : Entry) (r k : ℕ) → c i ≡ some e → In (r, k) e.pending
-      → In r e.sources × (p r ≡ some k) × ((f : Entry) × (c k ≡ some f) × f.seq < e.seq)
+      : (i : ℕ) (e : Entry) (r k : ℕ) → c i ≡ Some e → In (r, k) e.pending
+      → In r e.sources × (p r ≡ Some k) × ((f : Entry) × (c k ≡ Some f) × f.seq < e.seq)
   -- A reader that does not wait for a register is older than another unit that claims it.
   pub readers
-      : (i : ℕ) (e : Entry) (r k : ℕ) → c i ≡ some e → In r e.sources → ((m : ℕ) → In (r, m) e.pending → ⊥) → p r ≡ some k
-      → (k ≡ i) ⊎ ((f : Entry) × (c k ≡ some f) × e.seq < f.seq)
+      : (i : ℕ) (e : Entry) (r k : ℕ) → c i ≡ Some e → In r e.sources → ((m : ℕ) → In (r, m) e.pending → ⊥) → p r ≡ Some k
+      → (k ≡ i) ⊎ ((f : Entry) × (c k ≡ Some f) × e.seq < f.seq)
   pub branch : Marked b (λ e. e.redirects) c
   pub sys : Marked y (λ e. e.system) c
 
 -- ── Nothing in flight ───────────────────────────────────────────────────────
 
-pub mark-none : (flag : Entry → Bool) (c : ℕ → Option Entry) → ((i : ℕ) → c i ≡ none) → Marked false flag c
+pub mark-none : (flag : Entry → Bool) (c : ℕ → Option Entry) → ((i : ℕ) → c i ≡ None) → Marked false flag c
 mark-none flag c n =
     record {
       marks = λ i e h t. none-some e (sym (n i) ∙ h);
@@ -62,7 +62,7 @@ mark-none flag c n =
     }
 
 pub consistent-none
-    : (c : ℕ → Option Entry) (p : ℕ → Option ℕ) (lo : ℕ) → ((i : ℕ) → c i ≡ none) → ((r : ℕ) → p r ≡ none)
+    : (c : ℕ → Option Entry) (p : ℕ → Option ℕ) (lo : ℕ) → ((i : ℕ) → c i ≡ None) → ((r : ℕ) → p r ≡ None)
     → Consistent c p false false lo
 consistent-none c p lo n q =
     record {
@@ -110,10 +110,10 @@ unwait i e =
 
 -- c' and p' are c and p without unit i.
 pub record Left (i : ℕ) (c c' : ℕ → Option Entry) (p p' : ℕ → Option ℕ) : Type 0 where
-  pub kept : (j : ℕ) (f : Entry) → c j ≡ some f → (j ≡ i → ⊥) → c' j ≡ some (unwait i f)
-  pub only : (j : ℕ) (g : Entry) → c' j ≡ some g → (j ≡ i → ⊥) × ((f : Entry) × (c j ≡ some f) × (g ≡ unwait i f))
-  pub owed : (r k : ℕ) → p r ≡ some k → (k ≡ i → ⊥) → p' r ≡ some k
-  pub owes : (r k : ℕ) → p' r ≡ some k → (k ≡ i → ⊥) × (p r ≡ some k)
+  pub kept : (j : ℕ) (f : Entry) → c j ≡ Some f → (j ≡ i → ⊥) → c' j ≡ Some (unwait i f)
+  pub only : (j : ℕ) (g : Entry) → c' j ≡ Some g → (j ≡ i → ⊥) × ((f : Entry) × (c j ≡ Some f) × (g ≡ unwait i f))
+  pub owed : (r k : ℕ) → p r ≡ Some k → (k ≡ i → ⊥) → p' r ≡ Some k
+  pub owes : (r k : ℕ) → p' r ≡ Some k → (k ≡ i → ⊥) × (p r ≡ Some k)
 
 not-of : (a : Bool) → not a ≡ true → a ≡ true → ⊥
 not-of true h k = false≢true h
@@ -125,10 +125,10 @@ ne-not k i h = ap not (ne_eqb k i h)
 not-ne : (k i : ℕ) → not (eqb k i) ≡ true → k ≡ i → ⊥
 not-ne k i h e = not-of (eqb k i) h (eq-eqb k i e)
 
-module _ (i : ℕ) (c c' : ℕ → Option Entry) (p p' : ℕ → Option ℕ) (l : Left i c c' p p') (u : Entry) (at : c i ≡ some u) where
+module _ (i : ℕ) (c c' : ℕ → Option Entry) (p p' : ℕ → Option ℕ) (l : Left i c c' p p') (u : Entry) (at : c i ≡ Some u) where
   mark-left
       : (m : Bool) (flag : Entry → Bool) → ((e : Entry) → flag (unwait i e) ≡ flag e)
-      → ((j k : ℕ) (e f : Entry) → c j ≡ some e → c k ≡ some f → e.seq ≡ f.seq → j ≡ k)
+      → ((j k : ℕ) (e f : Entry) → c j ≡ Some e → c k ≡ Some f → e.seq ≡ f.seq → j ≡ k)
       → Marked m flag c → Marked (not (flag u) && m) flag c'
   mark-left m flag r apart h =
       record {
@@ -153,10 +153,10 @@ module _ (i : ℕ) (c c' : ℕ → Option Entry) (p p' : ℕ → Option ℕ) (l 
             subst (λ (z : Entry). f.seq ≤ z.seq) (sym o.1.2) (subst (λ (z : Entry). z.seq ≤ o.1.0.seq) (sym q.1.2) x);
       }
     where
-      same-entry : (j : ℕ) (e : Entry) → c j ≡ some e → j ≡ i → e ≡ u
+      same-entry : (j : ℕ) (e : Entry) → c j ≡ Some e → j ≡ i → e ≡ u
       same-entry j e k q = some_inj e u (sym k ∙ ap c q ∙ at)
 
-      marks-go : (j : ℕ) (f : Entry) → (j ≡ i → ⊥) → c j ≡ some f → flag f ≡ true → (d : Bool) → flag u ≡ d → (not (flag u) && m) ≡ true
+      marks-go : (j : ℕ) (f : Entry) → (j ≡ i → ⊥) → c j ≡ Some f → flag f ≡ true → (d : Bool) → flag u ≡ d → (not (flag u) && m) ≡ true
       marks-go j f ne k t true e =
           let x = h.youngest i j u f at e k in
           let z = h.youngest j i f u k t at in
@@ -208,8 +208,8 @@ module _ (i : ℕ) (c c' : ℕ → Option Entry) (p p' : ℕ → Option ℕ) (l 
       }
     where
       done
-          : (j : ℕ) (g f : Entry) (r k : ℕ) → g ≡ unwait i f → (k ≡ i → ⊥) → (k ≡ j) ⊎ ((x : Entry) × (c k ≡ some x) × f.seq < x.seq)
-          → (k ≡ j) ⊎ ((x : Entry) × (c' k ≡ some x) × g.seq < x.seq)
+          : (j : ℕ) (g f : Entry) (r k : ℕ) → g ≡ unwait i f → (k ≡ i → ⊥) → (k ≡ j) ⊎ ((x : Entry) × (c k ≡ Some x) × f.seq < x.seq)
+          → (k ≡ j) ⊎ ((x : Entry) × (c' k ≡ Some x) × g.seq < x.seq)
       done j g f r k e ne (inl q) = inl q
       done j g f r k e ne (inr (x, q, a)) =
           inr (unwait i x, l.kept k x q ne, subst (λ (z : Entry). z.seq < x.seq) (sym e) a)
@@ -218,20 +218,20 @@ module _ (i : ℕ) (c c' : ℕ → Option Entry) (p p' : ℕ → Option ℕ) (l 
 
 -- c' and p' are c and p with operation u in unit i.
 pub record Entered (i : ℕ) (u : Entry) (c c' : ℕ → Option Entry) (p p' : ℕ → Option ℕ) : Type 0 where
-  pub was_free : c i ≡ none
-  pub here : c' i ≡ some u
-  pub kept : (j : ℕ) (f : Entry) → c j ≡ some f → c' j ≡ some f
-  pub only : (j : ℕ) (g : Entry) → c' j ≡ some g → ((j ≡ i) × (g ≡ u)) ⊎ (c j ≡ some g)
-  pub unclaimed : (r : ℕ) → In r u.destinations → p r ≡ none
-  pub waits_for : (r k : ℕ) → In (r, k) u.pending → In r u.sources × (p r ≡ some k)
-  pub waits_all : (r k : ℕ) → In r u.sources → p r ≡ some k → In (r, k) u.pending
-  pub claimed : (r : ℕ) → In r u.destinations → p' r ≡ some i
-  pub owed : (r k : ℕ) → p r ≡ some k → p' r ≡ some k
-  pub owes : (r k : ℕ) → p' r ≡ some k → ((k ≡ i) × In r u.destinations) ⊎ (p r ≡ some k)
+  pub was_free : c i ≡ None
+  pub here : c' i ≡ Some u
+  pub kept : (j : ℕ) (f : Entry) → c j ≡ Some f → c' j ≡ Some f
+  pub only : (j : ℕ) (g : Entry) → c' j ≡ Some g → ((j ≡ i) × (g ≡ u)) ⊎ (c j ≡ Some g)
+  pub unclaimed : (r : ℕ) → In r u.destinations → p r ≡ None
+  pub waits_for : (r k : ℕ) → In (r, k) u.pending → In r u.sources × (p r ≡ Some k)
+  pub waits_all : (r k : ℕ) → In r u.sources → p r ≡ Some k → In (r, k) u.pending
+  pub claimed : (r : ℕ) → In r u.destinations → p' r ≡ Some i
+  pub owed : (r k : ℕ) → p r ≡ Some k → p' r ≡ Some k
+  pub owes : (r k : ℕ) → p' r ≡ Some k → ((k ≡ i) × In r u.destinations) ⊎ (p r ≡ Some k)
 
 module _ (i : ℕ) (u : Entry) (c c' : ℕ → Option Entry) (p p' : ℕ → Option ℕ) (n : Entered i u c c' p p') where
   mark-entered
-      : (flag : Entry → Bool) → ((j : ℕ) (e : Entry) → c j ≡ some e → e.seq < u.seq) → Marked false flag c → Marked (flag u) flag c'
+      : (flag : Entry → Bool) → ((j : ℕ) (e : Entry) → c j ≡ Some e → e.seq < u.seq) → Marked false flag c → Marked (flag u) flag c'
   mark-entered flag young h =
       record {
         marks = λ j g k t. marks-go j g t (n.only j g k);
@@ -239,12 +239,12 @@ module _ (i : ℕ) (u : Entry) (c c' : ℕ → Option Entry) (p p' : ℕ → Opt
         youngest = λ j k e f hj t hk. young-go j e f t (n.only j e hj) (n.only k f hk);
       }
     where
-      marks-go : (j : ℕ) (g : Entry) → flag g ≡ true → ((j ≡ i) × (g ≡ u)) ⊎ (c j ≡ some g) → flag u ≡ true
+      marks-go : (j : ℕ) (g : Entry) → flag g ≡ true → ((j ≡ i) × (g ≡ u)) ⊎ (c j ≡ Some g) → flag u ≡ true
       marks-go j g t (inl (a, q)) = sym (ap flag q) ∙ t
       marks-go j g t (inr k) = absurd (false≢true (h.marks j g k t))
 
       young-go
-          : {k : ℕ} (j : ℕ) (e f : Entry) → flag e ≡ true → ((j ≡ i) × (e ≡ u)) ⊎ (c j ≡ some e) → ((k ≡ i) × (f ≡ u)) ⊎ (c k ≡ some f)
+          : {k : ℕ} (j : ℕ) (e f : Entry) → flag e ≡ true → ((j ≡ i) × (e ≡ u)) ⊎ (c j ≡ Some e) → ((k ≡ i) × (f ≡ u)) ⊎ (c k ≡ Some f)
           → f.seq ≤ e.seq
       young-go {k} j e f t (inr a) z = absurd (false≢true (h.marks j e a t))
       young-go {k} j e f t (inl (a, q)) (inl (a', q')) =
@@ -268,12 +268,12 @@ module _ (i : ℕ) (u : Entry) (c c' : ℕ → Option Entry) (p p' : ℕ → Opt
         sys = mark-entered (λ e. e.system) h.young h.sys;
       }
     where
-      young-go : (j : ℕ) (g : Entry) → ((j ≡ i) × (g ≡ u)) ⊎ (c j ≡ some g) → g.seq < lo
+      young-go : (j : ℕ) (g : Entry) → ((j ≡ i) × (g ≡ u)) ⊎ (c j ≡ Some g) → g.seq < lo
       young-go j g (inl (a, q)) = subst (λ (z : Entry). z.seq < lo) (sym q) l
       young-go j g (inr k) = let x = h.young j g k in omega arith
 
       apart-go
-          : (j k : ℕ) (e f : Entry) → e.seq ≡ f.seq → ((j ≡ i) × (e ≡ u)) ⊎ (c j ≡ some e) → ((k ≡ i) × (f ≡ u)) ⊎ (c k ≡ some f) → j ≡ k
+          : (j k : ℕ) (e f : Entry) → e.seq ≡ f.seq → ((j ≡ i) × (e ≡ u)) ⊎ (c j ≡ Some e) → ((k ≡ i) × (f ≡ u)) ⊎ (c k ≡ Some f) → j ≡ k
       apart-go j k e f q (inl (a, b)) (inl (a', b')) = a ∙ sym a'
       apart-go j k e f q (inl (a, b)) (inr d) =
           let x = h.young k f d in let y = ap (λ (z : Entry). z.seq) b in omega arith
@@ -281,18 +281,18 @@ module _ (i : ℕ) (u : Entry) (c c' : ℕ → Option Entry) (p p' : ℕ → Opt
           let x = h.young j e d in let y = ap (λ (z : Entry). z.seq) b in omega arith
       apart-go j k e f q (inr d) (inr d') = h.apart j k e f d d' q
 
-      claims-go : (j : ℕ) (g : Entry) (r : ℕ) → In r g.destinations → ((j ≡ i) × (g ≡ u)) ⊎ (c j ≡ some g) → p' r ≡ some j
+      claims-go : (j : ℕ) (g : Entry) (r : ℕ) → In r g.destinations → ((j ≡ i) × (g ≡ u)) ⊎ (c j ≡ Some g) → p' r ≡ Some j
       claims-go j g r m (inl (a, q)) =
-          n.claimed r (subst (λ (z : Entry). In r z.destinations) q m) ∙ ap (λ (z : ℕ). some z) (sym a)
+          n.claimed r (subst (λ (z : Entry). In r z.destinations) q m) ∙ ap (λ (z : ℕ). Some z) (sym a)
       claims-go j g r m (inr k) = n.owed r j (h.claims j g r k m)
 
-      held-go : (r k : ℕ) → ((k ≡ i) × In r u.destinations) ⊎ (p r ≡ some k) → (e : Entry) × (c' k ≡ some e) × In r e.destinations
+      held-go : (r k : ℕ) → ((k ≡ i) × In r u.destinations) ⊎ (p r ≡ Some k) → (e : Entry) × (c' k ≡ Some e) × In r e.destinations
       held-go r k (inl (a, m)) = (u, ap c' a ∙ n.here, m)
       held-go r k (inr q) = let w = h.held r k q in (w.0, n.kept k w.0 w.1, w.2)
 
       waits-go
-          : (j : ℕ) (g : Entry) (r k : ℕ) → In (r, k) g.pending → ((j ≡ i) × (g ≡ u)) ⊎ (c j ≡ some g)
-          → In r g.sources × (p' r ≡ some k) × ((f : Entry) × (c' k ≡ some f) × f.seq < g.seq)
+          : (j : ℕ) (g : Entry) (r k : ℕ) → In (r, k) g.pending → ((j ≡ i) × (g ≡ u)) ⊎ (c j ≡ Some g)
+          → In r g.sources × (p' r ≡ Some k) × ((f : Entry) × (c' k ≡ Some f) × f.seq < g.seq)
       waits-go j g r k m (inl (a, q)) =
           let w = n.waits_for r k (subst (λ (z : Entry). In (r, k) z.pending) q m) in
           let d = h.held r k w.1 in (
@@ -305,15 +305,15 @@ module _ (i : ℕ) (u : Entry) (c c' : ℕ → Option Entry) (p p' : ℕ → Opt
           (w.0, n.owed r k w.1, (w.2.0, n.kept k w.2.0 w.2.1, w.2.2))
 
       later
-          : (j k : ℕ) (g : Entry) → (k ≡ j) ⊎ ((f : Entry) × (c k ≡ some f) × g.seq < f.seq)
-          → (k ≡ j) ⊎ ((f : Entry) × (c' k ≡ some f) × g.seq < f.seq)
+          : (j k : ℕ) (g : Entry) → (k ≡ j) ⊎ ((f : Entry) × (c k ≡ Some f) × g.seq < f.seq)
+          → (k ≡ j) ⊎ ((f : Entry) × (c' k ≡ Some f) × g.seq < f.seq)
       later j k g (inl e) = inl e
       later j k g (inr (f, d, a)) = inr (f, n.kept k f d, a)
 
       readers-go
           : (j : ℕ) (g : Entry) (r k : ℕ) → In r g.sources → ((m : ℕ) → In (r, m) g.pending → ⊥)
-          → ((j ≡ i) × (g ≡ u)) ⊎ (c j ≡ some g)
-          → ((k ≡ i) × In r u.destinations) ⊎ (p r ≡ some k) → (k ≡ j) ⊎ ((f : Entry) × (c' k ≡ some f) × g.seq < f.seq)
+          → ((j ≡ i) × (g ≡ u)) ⊎ (c j ≡ Some g)
+          → ((k ≡ i) × In r u.destinations) ⊎ (p r ≡ Some k) → (k ≡ j) ⊎ ((f : Entry) × (c' k ≡ Some f) × g.seq < f.seq)
       readers-go j g r k m w (inl (a, q)) (inl (a', d)) = inl (a' ∙ sym a)
       readers-go j g r k m w (inl (a, q)) (inr o) =
           absurd (w k (subst (λ (z : Entry). In (r, k) z.pending) (sym q) (n.waits_all r k (subst (λ (z : Entry). In r z.sources) q m) o)))

@@ -3,12 +3,11 @@ use Prim.Native.Nat.{ℕ, zero, suc, ◌≤◌, ◌<◌}
 use native.Mathlib.Omega.{arith}
 use mathlib.Core.Path.{◌≡◌, refl, sym, ◌∙◌, ap, ap₂, subst, fun_ext}
 use mathlib.Core.Bool.{Bool, true, false, cond, ◌||◌}
-use mathlib.Core.Option.{Option, none, some}
+use Rattle.std.specs.Prelude.{Option, None, Some, slice_get, option_map}
 use mathlib.Core.List.{List, [], ◌∷◌, ◌++◌, map}
 use lib.Dec.{eqb}
 use borrow.Author.Tests.{eqb-true, eqb-false, eq-eqb}
-use Rattle.laws.specs.Lists.{modify, nth}
-use Rattle.laws.specs.Optional.{omap}
+use Rattle.laws.specs.Lists.{modify}
 use Rattle.laws.proofs.Maps.{nth-map}
 use Rattle.laws.proofs.Choices.{none-some}
 use Rattle.capability.specs.declared.PipelineHazardKind.{PipelineHazardKind}
@@ -37,11 +36,11 @@ entry u =
     }
 
 abbrev pub entry_at : Option ℕ → ℕ → Option FunctionalUnit → Option Entry
-entry_at w i none = none
-entry_at w i (some u) = cond (occupied w i u) (some (entry u)) none
+entry_at w i None = None
+entry_at w i (Some u) = cond (occupied w i u) (Some (entry u)) None
 
 abbrev pub in_flight : State → ℕ → Option Entry
-in_flight s i = entry_at s.offer.writing i (nth s.units i)
+in_flight s i = entry_at s.offer.writing i (slice_get s.units i)
 
 abbrev pub ConsistentOf : State → Type 0
 ConsistentOf s =
@@ -51,13 +50,13 @@ ConsistentOf s =
 pub record Flight (s : State) : Type 0 where
   pub core : ConsistentOf s
   pub rising : Rising s.queue s.front.next_seq
-  pub offers : (i : ℕ) → s.offer.writing ≡ some i → (s.front.in_cycle ≡ true) × OnOffer s.units i
+  pub offers : (i : ℕ) → s.offer.writing ≡ Some i → (s.front.in_cycle ≡ true) × OnOffer s.units i
 
 -- Between an offer and the next.
 pub record Unoffered (s : State) : Type 0 where
   pub core : ConsistentOf s
   pub rising : Rising s.queue s.front.next_seq
-  pub no_offer : s.offer.writing ≡ none
+  pub no_offer : s.offer.writing ≡ None
 
 pub unoffered-flight : (s : State) → Unoffered s → Flight s
 unoffered-flight s h =
@@ -105,25 +104,25 @@ rising-last (x ∷ q) o n m e l h = (rw (front-last q o n m e) h.0, rising-last 
 -- ── Changes that keep what a unit holds ─────────────────────────────────────
 
 module _ (f : FunctionalUnit → FunctionalUnit) (kb : (u : FunctionalUnit) → (f u).busy ≡ u.busy) (ke : (u : FunctionalUnit) → entry (f u) ≡ entry u) where
-  pub entry_kept : (w : Option ℕ) (k : ℕ) (o : Option FunctionalUnit) → entry_at w k (omap f o) ≡ entry_at w k o
-  entry_kept w k none = refl
-  entry_kept w k (some u) = ap₂ (λ (b : Bool) (e : Entry). cond (b || offered w k) (some e) none) (kb u) (ke u)
+  pub entry_kept : (w : Option ℕ) (k : ℕ) (o : Option FunctionalUnit) → entry_at w k (option_map f o) ≡ entry_at w k o
+  entry_kept w k None = refl
+  entry_kept w k (Some u) = ap₂ (λ (b : Bool) (e : Entry). cond (b || offered w k) (Some e) None) (kb u) (ke u)
 
-  pub entry-map : (w : Option ℕ) (k : ℕ) (us : List FunctionalUnit) → entry_at w k (nth (map f us) k) ≡ entry_at w k (nth us k)
-  entry-map w k us = ap (entry_at w k) (nth-map f us k) ∙ entry_kept w k (nth us k)
+  pub entry-map : (w : Option ℕ) (k : ℕ) (us : List FunctionalUnit) → entry_at w k (slice_get (map f us) k) ≡ entry_at w k (slice_get us k)
+  entry-map w k us = ap (entry_at w k) (nth-map f us k) ∙ entry_kept w k (slice_get us k)
 
   pub entry-modify
-      : (w : Option ℕ) (k j : ℕ) (us : List FunctionalUnit) (i : ℕ) → entry_at w k (nth (modify j f us) i) ≡ entry_at w k (nth us i)
-  unfolding modify nth
+      : (w : Option ℕ) (k j : ℕ) (us : List FunctionalUnit) (i : ℕ) → entry_at w k (slice_get (modify j f us) i) ≡ entry_at w k (slice_get us i)
+  unfolding modify
   entry-modify w k j [] i = refl
-  entry-modify w k zero (u ∷ us) zero = entry_kept w k (some u)
+  entry-modify w k zero (u ∷ us) zero = entry_kept w k (Some u)
   entry-modify w k zero (u ∷ us) (suc i) = refl
   entry-modify w k (suc j) (u ∷ us) zero = refl
   entry-modify w k (suc j) (u ∷ us) (suc i) = entry-modify w k j us i
 
 pub entry-marked
     : (w : Option ℕ) (bs : List (ℕ × Blocked)) (us : List FunctionalUnit) (k : ℕ)
-    → entry_at w k (nth (mark_blocked bs us) k) ≡ entry_at w k (nth us k)
+    → entry_at w k (slice_get (mark_blocked bs us) k) ≡ entry_at w k (slice_get us k)
 unfolding writing units
 entry-marked w [] us k = refl
 entry-marked w (b ∷ bs) us k =
@@ -140,47 +139,47 @@ marked-same e r (b ∷ bs) us =
     marked-same e r bs (modify b.0 (mark_hazard (blocked_kind b.1)) us)
     ∙ map-modified e (mark_hazard (blocked_kind b.1)) (r (blocked_kind b.1)) b.0 us
 
-pub entry_other : (i j : ℕ) (o : Option FunctionalUnit) → eqb j i ≡ false → entry_at (some i) j o ≡ entry_at none j o
-entry_other i j none e = refl
-entry_other i j (some v) e = ap (λ (b : Bool). cond (v.busy || b) (some (entry v)) none) e
+pub entry_other : (i j : ℕ) (o : Option FunctionalUnit) → eqb j i ≡ false → entry_at (Some i) j o ≡ entry_at None j o
+entry_other i j None e = refl
+entry_other i j (Some v) e = ap (λ (b : Bool). cond (v.busy || b) (Some (entry v)) None) e
 
-pub entry-held : (w : Option ℕ) (i : ℕ) (u : FunctionalUnit) → occupied w i u ≡ true → entry_at w i (some u) ≡ some (entry u)
-entry-held w i u h = ap (λ (b : Bool). cond b (some (entry u)) none) h
+pub entry-held : (w : Option ℕ) (i : ℕ) (u : FunctionalUnit) → occupied w i u ≡ true → entry_at w i (Some u) ≡ Some (entry u)
+entry-held w i u h = ap (λ (b : Bool). cond b (Some (entry u)) None) h
 
-pub entry-empty : (w : Option ℕ) (i : ℕ) (u : FunctionalUnit) → occupied w i u ≡ false → entry_at w i (some u) ≡ none
-entry-empty w i u h = ap (λ (b : Bool). cond b (some (entry u)) none) h
+pub entry-empty : (w : Option ℕ) (i : ℕ) (u : FunctionalUnit) → occupied w i u ≡ false → entry_at w i (Some u) ≡ None
+entry-empty w i u h = ap (λ (b : Bool). cond b (Some (entry u)) None) h
 
-pub offered-self : (i : ℕ) (u : FunctionalUnit) → occupied (some i) i u ≡ true
+pub offered-self : (i : ℕ) (u : FunctionalUnit) → occupied (Some i) i u ≡ true
 offered-self i u = ap (λ (b : Bool). u.busy || b) (eq-eqb i i refl) ∙ or-true u.busy
 
 -- An operation is offered, or put back: it stays in flight.
 pub entry-out
-    : (us : List FunctionalUnit) (i : ℕ) (u : FunctionalUnit) → nth us i ≡ some u → u.busy ≡ true → (j : ℕ)
-    → entry_at (some i) j (nth (modify i (with_busy false) us) j) ≡ entry_at none j (nth us j)
+    : (us : List FunctionalUnit) (i : ℕ) (u : FunctionalUnit) → slice_get us i ≡ Some u → u.busy ≡ true → (j : ℕ)
+    → entry_at (Some i) j (slice_get (modify i (with_busy false) us) j) ≡ entry_at None j (slice_get us j)
 entry-out us i u h b j = go (eqb j i) refl
   where
-    at_i : entry_at (some i) i (nth (modify i (with_busy false) us) i) ≡ entry_at none i (nth us i)
+    at_i : entry_at (Some i) i (slice_get (modify i (with_busy false) us) i) ≡ entry_at None i (slice_get us i)
     at_i =
-        ap (entry_at (some i) i) (nth-same (with_busy false) us i ∙ ap (omap (with_busy false)) h)
-        ∙ entry-held (some i) i (with_busy false u) (offered-self i (with_busy false u))
-        ∙ sym (ap (entry_at none i) h ∙ entry-held none i u (or-false u.busy ∙ b))
+        ap (entry_at (Some i) i) (nth-same (with_busy false) us i ∙ ap (option_map (with_busy false)) h)
+        ∙ entry-held (Some i) i (with_busy false u) (offered-self i (with_busy false u))
+        ∙ sym (ap (entry_at None i) h ∙ entry-held None i u (or-false u.busy ∙ b))
 
-    go : (d : Bool) → eqb j i ≡ d → entry_at (some i) j (nth (modify i (with_busy false) us) j) ≡ entry_at none j (nth us j)
+    go : (d : Bool) → eqb j i ≡ d → entry_at (Some i) j (slice_get (modify i (with_busy false) us) j) ≡ entry_at None j (slice_get us j)
     go true e =
-        subst (λ (z : ℕ). entry_at (some i) z (nth (modify i (with_busy false) us) z) ≡ entry_at none z (nth us z)) (sym (eqb-true j i e)) at_i
+        subst (λ (z : ℕ). entry_at (Some i) z (slice_get (modify i (with_busy false) us) z) ≡ entry_at None z (slice_get us z)) (sym (eqb-true j i e)) at_i
     go false e =
-        ap (entry_at (some i) j) (nth-other (with_busy false) us i j (eqb-false j i e)) ∙ entry_other i j (nth us j) e
+        ap (entry_at (Some i) j) (nth-other (with_busy false) us i j (eqb-false j i e)) ∙ entry_other i j (slice_get us j) e
 
 pub entry-back
-    : (us : List FunctionalUnit) (i j : ℕ) → entry_at none j (nth (modify i (with_busy true) us) j) ≡ entry_at (some i) j (nth us j)
+    : (us : List FunctionalUnit) (i j : ℕ) → entry_at None j (slice_get (modify i (with_busy true) us) j) ≡ entry_at (Some i) j (slice_get us j)
 entry-back us i j = go (eqb j i) refl
   where
-    at_i : (o : Option FunctionalUnit) → entry_at none i (omap (with_busy true) o) ≡ entry_at (some i) i o
-    at_i none = refl
-    at_i (some u) = sym (entry-held (some i) i u (offered-self i u))
+    at_i : (o : Option FunctionalUnit) → entry_at None i (option_map (with_busy true) o) ≡ entry_at (Some i) i o
+    at_i None = refl
+    at_i (Some u) = sym (entry-held (Some i) i u (offered-self i u))
 
-    go : (d : Bool) → eqb j i ≡ d → entry_at none j (nth (modify i (with_busy true) us) j) ≡ entry_at (some i) j (nth us j)
+    go : (d : Bool) → eqb j i ≡ d → entry_at None j (slice_get (modify i (with_busy true) us) j) ≡ entry_at (Some i) j (slice_get us j)
     go true e =
-        subst (λ (z : ℕ). entry_at none z (nth (modify i (with_busy true) us) z) ≡ entry_at (some i) z (nth us z)) (sym (eqb-true j i e))
-        (ap (entry_at none i) (nth-same (with_busy true) us i) ∙ at_i (nth us i))
-    go false e = ap (entry_at none j) (nth-other (with_busy true) us i j (eqb-false j i e)) ∙ sym (entry_other i j (nth us j) e)
+        subst (λ (z : ℕ). entry_at None z (slice_get (modify i (with_busy true) us) z) ≡ entry_at (Some i) z (slice_get us z)) (sym (eqb-true j i e))
+        (ap (entry_at None i) (nth-same (with_busy true) us i) ∙ at_i (slice_get us i))
+    go false e = ap (entry_at None j) (nth-other (with_busy true) us i j (eqb-false j i e)) ∙ sym (entry_other i j (slice_get us j) e)

@@ -3,9 +3,10 @@ use Prim.Native.Nat.{ℕ, zero, suc, ◌≤◌}
 use native.Mathlib.Omega.{arith}
 use mathlib.Core.Path.{◌≡◌, refl, sym, ◌∙◌, ap, subst}
 use mathlib.Core.Bool.{Bool, true, false, cond}
-use mathlib.Core.Option.{Option, none, some}
+use Rattle.std.specs.Prelude.{Option, None, Some, slice_get}
 use mathlib.Core.List.{List, [], ◌∷◌, ◌++◌, map}
-use Rattle.laws.specs.Lists.{All, any, nth}
+use Rattle.laws.specs.Lists.{All}
+use Rattle.std.specs.List.{list_any}
 use Rattle.laws.specs.Numbers.{max64, saturating_add}
 use Rattle.laws.specs.Texts.{Text}
 use Rattle.laws.proofs.Choices.{none-some}
@@ -45,7 +46,7 @@ flight-advance r s h = unoffered-flight (advance r s) (go (stops s))
 
 -- Nothing in flight.
 dropped
-    : (s : State) → ((i : ℕ) → in_flight s i ≡ none) → ((r : ℕ) → producer_of s.producer r ≡ none) → s.marks.branch ≡ false
+    : (s : State) → ((i : ℕ) → in_flight s i ≡ None) → ((r : ℕ) → producer_of s.producer r ≡ None) → s.marks.branch ≡ false
     → s.marks.system ≡ false → ConsistentOf s
 dropped s hc hp pb py =
     let lo = front_number s.queue s.front.next_seq in
@@ -53,14 +54,14 @@ dropped s hc hp pb py =
     (subst (λ (x : Bool). Consistent (in_flight s) (producer_of s.producer) false x lo) (sym py)
     (consistent-none (in_flight s) (producer_of s.producer) lo hc hp))
 
-none-claimed : (ps : List (Option ℕ)) (r : ℕ) → producer_of (map (λ (p : Option ℕ). none) ps) r ≡ none
-unfolding registers nth
+none-claimed : (ps : List (Option ℕ)) (r : ℕ) → producer_of (map (λ (p : Option ℕ). None) ps) r ≡ None
+unfolding registers
 none-claimed [] r = refl
 none-claimed (p ∷ ps) zero = refl
 none-claimed (p ∷ ps) (suc r) = none-claimed ps r
 
-pub none-held : (k : ℕ) (us : List FunctionalUnit) (i : ℕ) → entry_at none k (nth (map clear us) i) ≡ none
-unfolding units nth
+pub none-held : (k : ℕ) (us : List FunctionalUnit) (i : ℕ) → entry_at None k (slice_get (map clear us) i) ≡ None
+unfolding units
 none-held k [] i = refl
 none-held k (u ∷ us) zero = refl
 none-held k (u ∷ us) (suc i) = none-held k us i
@@ -79,20 +80,19 @@ built-idle spec (k ∷ ks) =
 
 pub idle-empty
     : (k : ℕ) (us : List FunctionalUnit) → All (λ (u : FunctionalUnit). u.busy ≡ false) us → (i : ℕ)
-    → entry_at none k (nth us i) ≡ none
-unfolding nth
+    → entry_at None k (slice_get us i) ≡ None
 idle-empty k [] h i = refl
-idle-empty k (u ∷ us) h zero = entry-empty none k u (or-false u.busy ∙ h.0)
+idle-empty k (u ∷ us) h zero = entry-empty None k u (or-false u.busy ∙ h.0)
 idle-empty k (u ∷ us) h (suc i) = idle-empty k us h.1 i
 
 -- With nothing in flight there is no claim and no mark.
-module _ (c : ℕ → Option Entry) (p : ℕ → Option ℕ) (b y : Bool) (lo : ℕ) (h : Consistent c p b y lo) (n : (i : ℕ) → c i ≡ none) where
-  pub no-claim : (r : ℕ) → p r ≡ none
+module _ (c : ℕ → Option Entry) (p : ℕ → Option ℕ) (b y : Bool) (lo : ℕ) (h : Consistent c p b y lo) (n : (i : ℕ) → c i ≡ None) where
+  pub no-claim : (r : ℕ) → p r ≡ None
   no-claim r = go (p r) refl
     where
-      go : (x : Option ℕ) → p r ≡ x → p r ≡ none
-      go none e = e
-      go (some i) e = let w = h.held r i e in none-some w.0 (sym (n i) ∙ w.1)
+      go : (x : Option ℕ) → p r ≡ x → p r ≡ None
+      go None e = e
+      go (Some i) e = let w = h.held r i e in none-some w.0 (sym (n i) ∙ w.1)
 
 -- s after a capacity change, with these units.
 abbrev pub noted : ℕ → ℕ → State → List FunctionalUnit → State
@@ -101,22 +101,22 @@ noted k m s us =
 
 flight-capacity : (k m : ℕ) (s : State) → s.front.in_cycle ≡ false → Flight s → Flight (set_capacity k m s)
 unfolding scoreboard is_busy
-flight-capacity k m s c h = go (any is_busy s.units) refl
+flight-capacity k m s c h = go (list_any is_busy s.units) refl
   where
-    go : (b : Bool) → any is_busy s.units ≡ b → Flight (noted k m s (rebuilt b (with_noted k m s) s.units))
+    go : (b : Bool) → list_any is_busy s.units ≡ b → Flight (noted k m s (rebuilt b (with_noted k m s) s.units))
     go true e = record { core = h.core; rising = h.rising; offers = h.offers }
     go false e =
         let ks = with_noted k m s in
         let w = no-cycle s h c in
         let lo = front_number s.queue s.front.next_seq in
-        let empty : (i : ℕ) → in_flight s i ≡ none
-        = λ i. ap (λ (x : Option ℕ). entry_at x i (nth s.units i)) w ∙ idle-empty i s.units (any_none is_busy s.units e) i in
+        let empty : (i : ℕ) → in_flight s i ≡ None
+        = λ i. ap (λ (x : Option ℕ). entry_at x i (slice_get s.units i)) w ∙ idle-empty i s.units (any_none is_busy s.units e) i in
         record {
           core =
-              consistent-as (in_flight s) (λ i. entry_at s.offer.writing i (nth (build_units 0 ks) i)) (producer_of s.producer)
+              consistent-as (in_flight s) (λ i. entry_at s.offer.writing i (slice_get (build_units 0 ks) i)) (producer_of s.producer)
               (producer_of s.producer) s.marks.branch s.marks.system lo lo
               (λ i.
-              ap (λ (x : Option ℕ). entry_at x i (nth (build_units 0 ks) i)) w ∙ idle-empty i (build_units 0 ks) (built-idle 0 ks) i
+              ap (λ (x : Option ℕ). entry_at x i (slice_get (build_units 0 ks) i)) w ∙ idle-empty i (build_units 0 ks) (built-idle 0 ks) i
               ∙ sym (empty i))
               (λ r. refl) refl h.core;
           rising = h.rising;
@@ -124,7 +124,7 @@ flight-capacity k m s c h = go (any is_busy s.units) refl
         }
 
 flight-fetched
-    : (g : Given) (s : State) → saturating_add s.front.next_seq 1 ≡ suc s.front.next_seq → s.offer.writing ≡ none
+    : (g : Given) (s : State) → saturating_add s.front.next_seq 1 ≡ suc s.front.next_seq → s.offer.writing ≡ None
     → Flight s → Flight (fetched g s)
 unfolding scoreboard
 flight-fetched g s more w h =
@@ -148,7 +148,7 @@ flight-stopped a b x s =
     }
 
 flight-reset : (a : ℕ) (k : Bool) (s : State) → Flight (reset_to a k s)
-unfolding scoreboard registers build_units nth
+unfolding scoreboard registers build_units
 flight-reset a k s =
     record {
       core = consistent-none _ _ _ (λ i. idle-empty i (build_units 0 s.machine.specs) (built-idle 0 s.machine.specs) i) (λ r. refl);
@@ -157,7 +157,7 @@ flight-reset a k s =
     }
 
 pub flight-new : (d : PipelineShape) (entry : ℕ) → Flight (new d entry)
-unfolding engine registers build_units nth
+unfolding engine registers build_units
 flight-new d entry =
     record {
       core = consistent-none _ _ _ (λ i. idle-empty i (build_units 0 (machine_of d).specs) (built-idle 0 (machine_of d).specs) i) (λ r. refl);
@@ -165,7 +165,7 @@ flight-new d entry =
       offers = λ i q. none-some i q;
     }
 
-pub flight-run : (s : State) (c : Call) → refusal s c ≡ none → s.front.next_seq ≤ max64 → Flight s → Flight (run s c)
+pub flight-run : (s : State) (c : Call) → refusal s c ≡ None → s.front.next_seq ≤ max64 → Flight s → Flight (run s c)
 unfolding calls scoreboard writing
 flight-run s start p few h = flight-start s (start_outside s p) h
 flight-run s retire p few h = record { core = h.core; rising = h.rising; offers = h.offers }

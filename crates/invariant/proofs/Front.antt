@@ -3,12 +3,13 @@ use Prim.Native.Nat.{ℕ, ◌+◌, ◌≤◌, ◌<◌}
 use native.Mathlib.Omega.{arith}
 use mathlib.Core.Path.{◌≡◌, refl, sym, ◌∙◌, ap, ap₂, subst}
 use mathlib.Core.Bool.{Bool, true, false, cond, ◌||◌, true≢false, false≢true}
-use mathlib.Core.Option.{Option, none, some}
+use Rattle.std.specs.Prelude.{Option, None, Some, slice_get}
 use mathlib.Core.List.{[], map}
 use lib.Dec.{ltb}
 use lib.ListN.{length}
 use borrow.Author.Tests.{ltb-true}
-use Rattle.laws.specs.Lists.{any, lists, modify, nth}
+use Rattle.laws.specs.Lists.{lists, modify}
+use Rattle.std.specs.List.{list_any}
 use Rattle.laws.specs.Texts.{Text, bytes, texts}
 use Rattle.laws.proofs.Choices.{none-some, some_inj}
 use Rattle.laws.proofs.Maps.{length-of}
@@ -32,12 +33,12 @@ pub record Front (s : State) : Type 0 where
   pub outside : s.front.invited ≡ true → s.front.in_cycle ≡ false
   pub running : s.front.invited ≡ true → stops s ≡ false
   pub room : s.front.invited ≡ true → length s.queue < s.machine.depth
-  pub retired : s.offer.retired ≡ true → (i : ℕ) × (s.offer.writing ≡ some i)
+  pub retired : s.offer.retired ≡ true → (i : ℕ) × (s.offer.writing ≡ Some i)
   pub traces : length s.log.traces ≤ 130
   pub opened : s.front.in_cycle ≡ true → length s.log.traces ≤ 64
-  pub status : (t : Text) → s.log.status ≡ some t → bad_text 64 t ≡ false
+  pub status : (t : Text) → s.log.status ≡ Some t → bad_text 64 t ≡ false
   pub no_queue : stops s ≡ true → s.queue ≡ []
-  pub no_units : stops s ≡ true → (i : ℕ) → in_flight s i ≡ none
+  pub no_units : stops s ≡ true → (i : ℕ) → in_flight s i ≡ None
 
 front-start : (s : State) → s.front.in_cycle ≡ false → length s.units ≤ 64 → Flight s → Front s → Front (start_cycle s)
 unfolding writing scoreboard stall_all
@@ -53,14 +54,14 @@ front-start s c few f h =
       traces = omega arith;
       opened = λ e. n;
       status = h.status;
-      no_queue = λ e. ap (map (with_hazard none)) (h.no_queue e);
+      no_queue = λ e. ap (map (with_hazard None)) (h.no_queue e);
       no_units = λ e j. start-in_flight s c f j ∙ h.no_units e j;
     }
   where
     listed : {a b t : ℕ} → a ≡ length s.units → t ≤ a → b ≡ 0 + t → b ≤ 64
     listed e l q = omega arith
 
-front-retire : (s : State) → (i : ℕ) × (s.offer.writing ≡ some i) → Front s → Front (retire s)
+front-retire : (s : State) → (i : ℕ) × (s.offer.writing ≡ Some i) → Front s → Front (retire s)
 unfolding writing scoreboard
 front-retire s w h =
     record {
@@ -120,7 +121,7 @@ front-fetched g s v h =
       no_units = h.no_units;
     }
 
-front-capacity : (k m : ℕ) (s : State) → s.offer.writing ≡ none → Front s → Front (set_capacity k m s)
+front-capacity : (k m : ℕ) (s : State) → s.offer.writing ≡ None → Front s → Front (set_capacity k m s)
 unfolding scoreboard
 front-capacity k m s w h =
     record {
@@ -132,14 +133,14 @@ front-capacity k m s w h =
       opened = h.opened;
       status = h.status;
       no_queue = h.no_queue;
-      no_units = λ e. go e (any is_busy s.units);
+      no_units = λ e. go e (list_any is_busy s.units);
     }
   where
-    go : stops s ≡ true → (b : Bool) (i : ℕ) → in_flight (noted k m s (rebuilt b (with_noted k m s) s.units)) i ≡ none
+    go : stops s ≡ true → (b : Bool) (i : ℕ) → in_flight (noted k m s (rebuilt b (with_noted k m s) s.units)) i ≡ None
     go e true i = h.no_units e i
     go e false i =
         let us = build_units 0 (with_noted k m s) in
-        ap (λ (x : Option ℕ). entry_at x i (nth us i)) w ∙ idle-empty i us (built-idle 0 (with_noted k m s)) i
+        ap (λ (x : Option ℕ). entry_at x i (slice_get us i)) w ∙ idle-empty i us (built-idle 0 (with_noted k m s)) i
 
 front-enabled : (b : Bool) (s : State) → Front s → Front (set_enabled b s)
 unfolding scoreboard
@@ -189,15 +190,15 @@ front-made d entry =
 -- ── An advance ──────────────────────────────────────────────────────────────
 
 -- With nothing in flight nothing is on offer.
-pub no_offer : (s : State) → Flight s → ((i : ℕ) → in_flight s i ≡ none) → s.offer.writing ≡ none
+pub no_offer : (s : State) → Flight s → ((i : ℕ) → in_flight s i ≡ None) → s.offer.writing ≡ None
 no_offer s f n = go s.offer.writing refl
   where
-    go : (w : Option ℕ) → s.offer.writing ≡ w → s.offer.writing ≡ none
-    go none e = e
-    go (some i) e =
+    go : (w : Option ℕ) → s.offer.writing ≡ w → s.offer.writing ≡ None
+    go None e = e
+    go (Some i) e =
         let a = (f.offers i e).1 in
         none-some (entry a.0)
-        (sym (n i) ∙ ap₂ (λ (w : Option ℕ) (o : Option FunctionalUnit). entry_at w i o) e a.1 ∙ entry-held (some i) i a.0 (offered-self i a.0))
+        (sym (n i) ∙ ap₂ (λ (w : Option ℕ) (o : Option FunctionalUnit). entry_at w i o) e a.1 ∙ entry-held (Some i) i a.0 (offered-self i a.0))
 
 pub record Closed (s t : State) : Type 0 where
   pub halted : t.front.halted ≡ s.front.halted
@@ -208,19 +209,19 @@ pub record Closed (s t : State) : Type 0 where
   pub traces : t.log.traces ≡ s.log.traces
   pub status : t.log.status ≡ s.log.status
   pub many : length t.units ≡ length s.units
-  pub writing : t.offer.writing ≡ none
+  pub writing : t.offer.writing ≡ None
   pub retired : t.offer.retired ≡ false
 
 pub close : (s : State) → Front s → Closed s (closed s)
 unfolding scoreboard issuing
 close s h = go s.offer.writing refl
   where
-    unretired : (b : Bool) → s.offer.retired ≡ b → s.offer.writing ≡ none → b ≡ false
+    unretired : (b : Bool) → s.offer.retired ≡ b → s.offer.writing ≡ None → b ≡ false
     unretired true e w = let x = h.retired e in none-some x.0 (sym w ∙ x.1)
     unretired false e w = refl
 
     go : (w : Option ℕ) → s.offer.writing ≡ w → Closed s (close_cycle (complete_offer w s))
-    go none e =
+    go None e =
         record {
           halted = refl;
           faulted = refl;
@@ -233,7 +234,7 @@ close s h = go s.offer.writing refl
           writing = e;
           retired = unretired s.offer.retired refl e;
         }
-    go (some i) e =
+    go (Some i) e =
         record {
           halted = refl;
           faulted = refl;
@@ -247,13 +248,13 @@ close s h = go s.offer.writing refl
           retired = refl;
         }
 
-close-none : (s : State) → s.offer.writing ≡ none → (i : ℕ) → in_flight (closed s) i ≡ in_flight s i
+close-none : (s : State) → s.offer.writing ≡ None → (i : ℕ) → in_flight (closed s) i ≡ in_flight s i
 unfolding scoreboard issuing
 close-none s w i = go s.offer.writing w
   where
-    go : (x : Option ℕ) → x ≡ none → in_flight (close_cycle (complete_offer x s)) i ≡ in_flight s i
-    go none e = refl
-    go (some k) e = none-some k (sym e)
+    go : (x : Option ℕ) → x ≡ None → in_flight (close_cycle (complete_offer x s)) i ≡ in_flight s i
+    go None e = refl
+    go (Some k) e = none-some k (sym e)
 
 front-advance : (r : Option ℕ) (s : State) → s.front.in_cycle ≡ true → length s.units ≤ 64 → Flight s → Front s → Front (advance r s)
 unfolding scoreboard issuing
@@ -300,7 +301,7 @@ front-advance r s c few f h = go (stops s) refl
 
 -- ── Every call ──────────────────────────────────────────────────────────────
 
-pub front-run : (s : State) (c : Call) → refusal s c ≡ none → length s.units ≤ 64 → Flight s → Front s → Front (run s c)
+pub front-run : (s : State) (c : Call) → refusal s c ≡ None → length s.units ≤ 64 → Flight s → Front s → Front (run s c)
 unfolding calls writing texts lists
 front-run s start p few f h = front-start s (start_outside s p) few f h
 front-run s retire-call p few f h = front-retire s (retire_offer s p) h

@@ -3,12 +3,12 @@ use Prim.Native.Nat.{ℕ, suc, ◌≤◌, ◌<◌}
 use native.Mathlib.Omega.{arith}
 use mathlib.Core.Path.{◌≡◌, refl, sym, ◌∙◌, ap, subst}
 use mathlib.Core.Bool.{Bool, true, false, cond}
-use mathlib.Core.Option.{Option, none, some}
+use Rattle.std.specs.Prelude.{Option, None, Some, slice_get}
 use mathlib.Core.List.{List, [], ◌∷◌}
 use mathlib.Core.Logic.{◌⊎◌, inl, inr, ◌↔◌}
 use lib.ListN.{length}
 use lib.Dec.{T}
-use Rattle.laws.specs.Lists.{is_empty, lists, nth}
+use Rattle.laws.specs.Lists.{is_empty, lists}
 use Rattle.laws.specs.Texts.{Text, same}
 use Rattle.laws.proofs.Choices.{none-some, some_inj}
 use Rattle.laws.proofs.Same.{same-eq}
@@ -32,20 +32,20 @@ use Rattle.invariant.proofs.Kept.{Kept, kept-after, kept-made}
 
 -- ── Units and entries ───────────────────────────────────────────────────────
 
-to-entry : (s : State) (i : ℕ) (u : FunctionalUnit) → Holds s i u → in_flight s i ≡ some (entry u)
+to-entry : (s : State) (i : ℕ) (u : FunctionalUnit) → Holds s i u → in_flight s i ≡ Some (entry u)
 to-entry s i u h = ap (entry_at s.offer.writing i) h.there ∙ entry-held s.offer.writing i u h.in_flight
 
-from-entry : (s : State) (i : ℕ) (e : Entry) → in_flight s i ≡ some e → (u : FunctionalUnit) × Holds s i u × (entry u ≡ e)
-from-entry s i e h = go (nth s.units i) refl h
+from-entry : (s : State) (i : ℕ) (e : Entry) → in_flight s i ≡ Some e → (u : FunctionalUnit) × Holds s i u × (entry u ≡ e)
+from-entry s i e h = go (slice_get s.units i) refl h
   where
     go
-        : (o : Option FunctionalUnit) → nth s.units i ≡ o → entry_at s.offer.writing i o ≡ some e
+        : (o : Option FunctionalUnit) → slice_get s.units i ≡ o → entry_at s.offer.writing i o ≡ Some e
         → (u : FunctionalUnit) × Holds s i u × (entry u ≡ e)
-    go none q k = none-some e k
-    go (some u) q k = at (occupied s.offer.writing i u) refl k
+    go None q k = none-some e k
+    go (Some u) q k = at (occupied s.offer.writing i u) refl k
       where
         at
-            : (b : Bool) → occupied s.offer.writing i u ≡ b → cond b (some (entry u)) none ≡ some e
+            : (b : Bool) → occupied s.offer.writing i u ≡ b → cond b (Some (entry u)) None ≡ Some e
             → (v : FunctionalUnit) × Holds s i v × (entry v ≡ e)
         at true l z = (u, record { there = q; in_flight = l }, some_inj (entry u) e z)
         at false l z = none-some e z
@@ -58,7 +58,7 @@ non-empty r k (w ∷ ws) n = refl
 -- ── Names, each at one place ────────────────────────────────────────────────
 
 apart-places
-    : (x : Text) (ns : List Text) → ((k : ℕ) (a : Text) → nth ns k ≡ some a → x ≡ a → ⊥) → Apart x ns
+    : (x : Text) (ns : List Text) → ((k : ℕ) (a : Text) → slice_get ns k ≡ Some a → x ≡ a → ⊥) → Apart x ns
 unfolding lists
 apart-places x [] h = tt
 apart-places x (y ∷ ys) h = (go (same x y) refl, apart-places x ys (λ k a e. h (suc k) a e))
@@ -68,11 +68,11 @@ apart-places x (y ∷ ys) h = (go (same x y) refl, apart-places x ys (λ k a e. 
     go false e = refl
 
 distinct-places
-    : (ns : List Text) → ((j k : ℕ) (a : Text) → nth ns j ≡ some a → nth ns k ≡ some a → j ≡ k) → Distinct ns
+    : (ns : List Text) → ((j k : ℕ) (a : Text) → slice_get ns j ≡ Some a → slice_get ns k ≡ Some a → j ≡ k) → Distinct ns
 unfolding lists
 distinct-places [] h = tt
 distinct-places (x ∷ xs) h = (
-  apart-places x xs (λ k a e q. let z = h 0 (suc k) a (ap some q) e in omega arith),
+  apart-places x xs (λ k a e q. let z = h 0 (suc k) a (ap Some q) e in omega arith),
   distinct-places xs (λ j k a e q. let z = h (suc j) (suc k) a e q in omega arith),
 )
 
@@ -91,7 +91,7 @@ module _ (s : State) (h : Kept s) where
   )
 
   older
-      : (i : ℕ) (u : FunctionalUnit) (k : ℕ) → (k ≡ i) ⊎ ((f : Entry) × (in_flight s k ≡ some f) × u.op.core.seq < f.seq)
+      : (i : ℕ) (u : FunctionalUnit) (k : ℕ) → (k ≡ i) ⊎ ((f : Entry) × (in_flight s k ≡ Some f) × u.op.core.seq < f.seq)
       → (k ≡ i) ⊎ ((v : FunctionalUnit) × Holds s k v × u.op.core.seq < v.op.core.seq)
   older i u k (inl e) = inl e
   older i u k (inr (f, q, l)) =
@@ -196,7 +196,7 @@ module _ (s : State) (h : Invariant s) where
   younger
       : (i : ℕ) (e : Entry) (u : FunctionalUnit) (k : ℕ) → entry u ≡ e
       → (k ≡ i) ⊎ ((v : FunctionalUnit) × Holds s k v × u.op.core.seq < v.op.core.seq)
-      → (k ≡ i) ⊎ ((f : Entry) × (in_flight s k ≡ some f) × e.seq < f.seq)
+      → (k ≡ i) ⊎ ((f : Entry) × (in_flight s k ≡ Some f) × e.seq < f.seq)
   younger i e u k q (inl z) = inl z
   younger i e u k q (inr (v, a, l)) =
       inr (entry v, to-entry s k v a, subst (λ (x : Entry). x.seq < v.op.core.seq) q l)
@@ -232,12 +232,12 @@ module _ (s : State) (h : Invariant s) where
         sys = mark-kept s.marks.system (λ e. e.system) h.system_mark h.system_youngest;
       }
 
-  none-held : stops s ≡ true → (i : ℕ) → in_flight s i ≡ none
+  none-held : stops s ≡ true → (i : ℕ) → in_flight s i ≡ None
   none-held e i = go (in_flight s i) refl
     where
-      go : (o : Option Entry) → in_flight s i ≡ o → o ≡ none
-      go none q = refl
-      go (some x) q = let v = from-entry s i x q in absurd (h.stopped_units e i v.0 v.1)
+      go : (o : Option Entry) → in_flight s i ≡ o → o ≡ None
+      go None q = refl
+      go (Some x) q = let v = from-entry s i x q in absurd (h.stopped_units e i v.0 v.1)
 
   pub kept_of : Kept s
   kept_of =
@@ -285,7 +285,7 @@ module _ (s : State) (h : Invariant s) where
 -- ── The theorems ────────────────────────────────────────────────────────────
 
 -- A new engine.
-pub invariant-made : (d : PipelineShape) (entry lent : ℕ) → make_refusal d lent ≡ none → Invariant (new d entry)
+pub invariant-made : (d : PipelineShape) (entry lent : ℕ) → make_refusal d lent ≡ None → Invariant (new d entry)
 invariant-made d entry lent p = invariant-of (new d entry) (kept-made d entry lent p)
 
 -- A call, refused or not.
@@ -300,5 +300,5 @@ invariant-runs s (c ∷ cs) h = invariant-runs (after s c) cs (invariant-kept s 
 
 -- Every engine that is made, after any calls.
 pub invariant-always
-    : (d : PipelineShape) (entry lent : ℕ) (cs : List Call) → make_refusal d lent ≡ none → Invariant (runs (new d entry) cs)
+    : (d : PipelineShape) (entry lent : ℕ) (cs : List Call) → make_refusal d lent ≡ None → Invariant (runs (new d entry) cs)
 invariant-always d entry lent cs p = invariant-runs (new d entry) cs (invariant-made d entry lent p)

@@ -3,14 +3,13 @@ use Prim.Native.Nat.{ℕ, ◌<◌}
 use native.Mathlib.Omega.{arith}
 use mathlib.Core.Path.{◌≡◌, refl, sym, ◌∙◌, ap, subst}
 use mathlib.Core.Bool.{Bool, true, false, not, ◌&&◌, ◌||◌}
-use mathlib.Core.Option.{Option, none, some}
+use Rattle.std.specs.Prelude.{Option, None, Some, slice_get, option_map}
 use mathlib.Core.List.{List, [], ◌∷◌}
 use mathlib.Core.Logic.{◌⊎◌, inl, inr}
 use lib.Dec.{eqb}
 use lib.ListN.{length}
 use borrow.Author.Tests.{eqb-true, eqb-false}
-use Rattle.laws.specs.Lists.{modify, nth}
-use Rattle.laws.specs.Optional.{omap}
+use Rattle.laws.specs.Lists.{modify}
 use Rattle.laws.specs.Texts.{Text}
 use Rattle.laws.proofs.Choices.{none-some, some_inj}
 use Rattle.capability.specs.declared.PipelineHazardKind.{PipelineHazardKind}
@@ -41,9 +40,9 @@ unoffered-blocked x d s h =
     record {
       core =
           consistent-as (in_flight s) (in_flight s) (producer_of s.producer) (producer_of s.producer) s.marks.branch
-          s.marks.system (front_number s.queue n) (front_number (modify 0 (with_hazard (some x)) s.queue) n) (λ j. refl)
-          (λ r. refl) (front-first (some x) s.queue n) h.core;
-      rising = rising-first (some x) s.queue n h.rising;
+          s.marks.system (front_number s.queue n) (front_number (modify 0 (with_hazard (Some x)) s.queue) n) (λ j. refl)
+          (λ r. refl) (front-first (Some x) s.queue n) h.core;
+      rising = rising-first (Some x) s.queue n h.rising;
       no_offer = h.no_offer;
     }
 
@@ -61,15 +60,15 @@ unoffered-learn ns s h =
 
 -- A free unit is found: it is there, and not busy.
 pub free-found
-    : (ks : List UnitSpec) (us : List FunctionalUnit) (c : PipelineInstructionClass) (i : ℕ) → free_unit ks us c ≡ some i
-    → (u : FunctionalUnit) × (nth us i ≡ some u) × (u.busy ≡ false) × (u.spec ≡ spec_index ks c)
+    : (ks : List UnitSpec) (us : List FunctionalUnit) (c : PipelineInstructionClass) (i : ℕ) → free_unit ks us c ≡ Some i
+    → (u : FunctionalUnit) × (slice_get us i ≡ Some u) × (u.busy ≡ false) × (u.spec ≡ spec_index ks c)
 unfolding issuing
 free-found ks us c i h =
     let w = find-hit (λ (i : ℕ) (u : FunctionalUnit). eqb u.spec (spec_index ks c) && not u.busy) 0 us i h in
     let u = w.2.0 in
     let m : w.0 ≡ i = omega (arith, w.1) in
     let a = and_both (eqb u.spec (spec_index ks c)) (not u.busy) w.2.2 in
-    (u, subst (λ (z : ℕ). nth us z ≡ some u) m w.2.1, not-true u.busy a.1, eqb-true u.spec (spec_index ks c) a.0)
+    (u, subst (λ (z : ℕ). slice_get us z ≡ Some u) m w.2.1, not-true u.busy a.1, eqb-true u.spec (spec_index ks c) a.0)
 
 module _
     (o : Op)
@@ -78,29 +77,29 @@ module _
     (us : List FunctionalUnit)
     (ps : List (Option ℕ))
     (v : FunctionalUnit)
-    (at : nth us i ≡ some v)
+    (at : slice_get us i ≡ Some v)
     (idle : v.busy ≡ false)
     (fits : (x : ℕ) → In x w → x < length ps)
-    (clean : (x : ℕ) → In x w → producer_of ps x ≡ none)
+    (clean : (x : ℕ) → In x w → producer_of ps x ≡ None)
   where
     abbrev new-unit : FunctionalUnit
     new-unit = occupy o r w (waits_on ps r) v
 
     abbrev e-before : ℕ → Option Entry
-    e-before j = entry_at none j (nth us j)
+    e-before j = entry_at None j (slice_get us j)
 
     abbrev e-after : ℕ → Option Entry
-    e-after j = entry_at none j (nth (modify i (occupy o r w (waits_on ps r)) us) j)
+    e-after j = entry_at None j (slice_get (modify i (occupy o r w (waits_on ps r)) us) j)
 
-    free-before : e-before i ≡ none
-    free-before = ap (entry_at none i) at ∙ entry-empty none i v (or-false v.busy ∙ idle)
+    free-before : e-before i ≡ None
+    free-before = ap (entry_at None i) at ∙ entry-empty None i v (or-false v.busy ∙ idle)
 
-    here-after : e-after i ≡ some (entry new-unit)
+    here-after : e-after i ≡ Some (entry new-unit)
     unfolding units
-    here-after = ap (entry_at none i) (nth-same (occupy o r w (waits_on ps r)) us i ∙ ap (omap (occupy o r w (waits_on ps r))) at)
+    here-after = ap (entry_at None i) (nth-same (occupy o r w (waits_on ps r)) us i ∙ ap (option_map (occupy o r w (waits_on ps r))) at)
 
     away : (j : ℕ) → (j ≡ i → ⊥) → e-after j ≡ e-before j
-    away j n = ap (entry_at none j) (nth-other (occupy o r w (waits_on ps r)) us i j n)
+    away j n = ap (entry_at None j) (nth-other (occupy o r w (waits_on ps r)) us i j n)
 
     entered : Entered i (entry new-unit) e-before e-after (producer_of ps) (producer_of (claim_all i ps w))
     unfolding units
@@ -119,16 +118,16 @@ module _
         }
       where
         only-go
-            : (j : ℕ) (g : Entry) → e-after j ≡ some g → (b : Bool) → eqb j i ≡ b
-            → ((j ≡ i) × (g ≡ entry new-unit)) ⊎ (e-before j ≡ some g)
+            : (j : ℕ) (g : Entry) → e-after j ≡ Some g → (b : Bool) → eqb j i ≡ b
+            → ((j ≡ i) × (g ≡ entry new-unit)) ⊎ (e-before j ≡ Some g)
         only-go j g e true t =
             let z = eqb-true j i t in
             inl (z, some_inj g (entry new-unit) (sym e ∙ ap e-after z ∙ here-after))
         only-go j g e false t = inr (sym (away j (eqb-false j i t)) ∙ e)
 
         owes-go
-            : (x k : ℕ) → producer_of (claim_all i ps w) x ≡ some k → In x w ⊎ (In x w → ⊥)
-            → ((k ≡ i) × In x w) ⊎ (producer_of ps x ≡ some k)
+            : (x k : ℕ) → producer_of (claim_all i ps w) x ≡ Some k → In x w ⊎ (In x w → ⊥)
+            → ((k ≡ i) × In x w) ⊎ (producer_of ps x ≡ Some k)
         owes-go x k e (inl n) = inl (some_inj k i (sym e ∙ claims-in i w ps fits x n), n)
         owes-go x k e (inr n) = inr (sym (claims-out i w ps x n) ∙ e)
 
@@ -140,8 +139,8 @@ module _
 
 unoffered-placed
     : (o : Op) (rest : List Op) (r w : List ℕ) (i : ℕ) (s : State) → s.queue ≡ o ∷ rest → s.marks.branch ≡ false
-    → s.marks.system ≡ false → ((v : FunctionalUnit) × (nth s.units i ≡ some v) × (v.busy ≡ false))
-    → ((x : ℕ) → In x w → x < length s.producer) → ((x : ℕ) → In x w → producer_of s.producer x ≡ none) → Unoffered s
+    → s.marks.system ≡ false → ((v : FunctionalUnit) × (slice_get s.units i ≡ Some v) × (v.busy ≡ false))
+    → ((x : ℕ) → In x w → x < length s.producer) → ((x : ℕ) → In x w → producer_of s.producer x ≡ None) → Unoffered s
     → Unoffered (place o rest r w i s)
 unfolding issuing
 unoffered-placed o rest r w i s q pb py v fits clean h =
@@ -149,13 +148,13 @@ unoffered-placed o rest r w i s q pb py v fits clean h =
     let us = s.units in
     let ps = s.producer in
     let up : Rising (o ∷ rest) n = subst (λ (z : List Op). Rising z n) q h.rising in
-    let before : Consistent (λ j. entry_at none j (nth us j)) (producer_of ps) false false o.core.seq
-    = subst (λ (x : Option ℕ). Consistent (λ j. entry_at x j (nth us j)) (producer_of ps) false false o.core.seq) h.no_offer
+    let before : Consistent (λ j. entry_at None j (slice_get us j)) (producer_of ps) false false o.core.seq
+    = subst (λ (x : Option ℕ). Consistent (λ j. entry_at x j (slice_get us j)) (producer_of ps) false false o.core.seq) h.no_offer
     (subst (λ (x : Bool). Consistent (in_flight s) (producer_of ps) x false o.core.seq) pb
     (subst (λ (x : Bool). Consistent (in_flight s) (producer_of ps) s.marks.branch x o.core.seq) py
     (subst (λ (x : List Op). Consistent (in_flight s) (producer_of ps) s.marks.branch s.marks.system (front_number x n)) q h.core))) in
     let placed = consistent-placed o r w i us ps v.0 v.1 v.2 fits clean (front_number rest n) up.0 before in
-    let c : ℕ → Option Entry = λ j. entry_at s.offer.writing j (nth (modify i (occupy o r w (waits_on ps r)) us) j) in
+    let c : ℕ → Option Entry = λ j. entry_at s.offer.writing j (slice_get (modify i (occupy o r w (waits_on ps r)) us) j) in
     record {
       core =
           subst
@@ -174,7 +173,7 @@ unoffered-placed o rest r w i s q pb py v fits clean h =
           (sym (or-false (is_system o.core.decoded.class)))
           (subst
           (λ (x : Option ℕ).
-          Consistent (λ j. entry_at x j (nth (modify i (occupy o r w (waits_on ps r)) us) j)) (producer_of (claim_all i ps w)) o.core.decoded.branch
+          Consistent (λ j. entry_at x j (slice_get (modify i (occupy o r w (waits_on ps r)) us) j)) (producer_of (claim_all i ps w)) o.core.decoded.branch
           (is_system o.core.decoded.class) (front_number rest n))
           (sym h.no_offer) placed))));
       rising = up.1;
@@ -186,9 +185,9 @@ unoffered-to
     → s.marks.system ≡ false → taken s.producer w ≡ t → free_unit s.machine.specs s.units o.core.decoded.class ≡ f
     → ((x : ℕ) → In x w → x < length s.producer) → Unoffered s → Unoffered (issue_to o rest r w t f s)
 unfolding issuing
-unoffered-to o rest r w (some x) f s q pb py tk fr fits h = unoffered-blocked WriteAfterWrite _ s h
-unoffered-to o rest r w none none s q pb py tk fr fits h = unoffered-blocked FunctionalUnitBusy _ s h
-unoffered-to o rest r w none (some i) s q pb py tk fr fits h =
+unoffered-to o rest r w (Some x) f s q pb py tk fr fits h = unoffered-blocked WriteAfterWrite _ s h
+unoffered-to o rest r w None None s q pb py tk fr fits h = unoffered-blocked FunctionalUnitBusy _ s h
+unoffered-to o rest r w None (Some i) s q pb py tk fr fits h =
     let v = free-found s.machine.specs s.units o.core.decoded.class i fr in
     unoffered-placed o rest r w i s q pb py (v.0, v.1, v.2) fits (taken_none s.producer w tk) h
 

@@ -2,7 +2,7 @@
 use Prim.Native.Nat.{ℕ}
 use native.Mathlib.Omega.{arith}
 use mathlib.Core.Path.{◌≡◌, refl}
-use mathlib.Core.Option.{Option, none, some}
+use Rattle.std.specs.Prelude.{Option, None, Some}
 use Rattle.laws.specs.Optional.{when_some}
 use Rattle.model.specs.Calls.{Call, after, calls, refusal, run, make_refusal}
 use Rattle.model.specs.Config.{PipelineShape, machine_of}
@@ -33,7 +33,7 @@ unfolding calls
 kept-after s c h = go (refusal s c) refl
   where
     go : (o : Option ℕ) → refusal s c ≡ o → Kept (when_some o (run s c) (λ (n : ℕ). s))
-    go none p =
+    go None p =
         record {
           flight = flight-run s c p h.sizes.few h.flight;
           local = locals-run s c p h.flight h.sizes h.front h.local;
@@ -41,15 +41,15 @@ kept-after s c h = go (refusal s c) refl
           front = front-run s c p (units-count s h.sizes.built.0 h.sizes.built.1).1 h.flight h.front;
           names = names_few-run s c p h.names;
         }
-    go (some n) p = h
+    go (Some n) p = h
 
-pub kept-made : (d : PipelineShape) (entry lent : ℕ) → make_refusal d lent ≡ none → Kept (new d entry)
+pub kept-made : (d : PipelineShape) (entry lent : ℕ) → make_refusal d lent ≡ None → Kept (new d entry)
 unfolding engine registers calls
 kept-made d entry lent p =
     let z = sizes-made d entry (make-taken d lent p) in
     record {
       flight = flight-new d entry;
-      local = locals-built _ 0 none (machine_of d).specs (omega arith) z.kinds.sum_few;
+      local = locals-built _ 0 None (machine_of d).specs (omega arith) z.kinds.sum_few;
       sizes = z;
       front = front-made d entry;
       names = omega arith;

@@ -3,14 +3,15 @@ use Prim.Native.Nat.{ℕ, zero, suc, ◌+◌, ◌<◌, ◌≤◌}
 use native.Mathlib.Omega.{arith}
 use mathlib.Core.Path.{◌≡◌, refl, sym, ◌∙◌, ap, ap₂, subst}
 use mathlib.Core.Bool.{Bool, true, false, cond, false≢true}
-use mathlib.Core.Option.{Option, none, some}
+use Rattle.std.specs.Prelude.{Option, None, Some, slice_get, option_map}
 use mathlib.Core.List.{List, [], ◌∷◌, ◌++◌, map}
 use mathlib.Core.Logic.{◌⊎◌, inl, inr}
 use lib.Dec.{eqb}
 use lib.ListN.{length, take}
 use borrow.Author.Tests.{eqb-true, eqb-false}
-use Rattle.laws.specs.Lists.{All, any, find_at, keep, modify, nth, is_empty}
-use Rattle.laws.specs.Optional.{omap, or_else}
+use Rattle.laws.specs.Lists.{All, find_at, keep, modify, is_empty}
+use Rattle.std.specs.List.{list_any}
+use Rattle.std.specs.Option.{option_or}
 use Rattle.laws.proofs.Maps.{nth-map}
 use Rattle.laws.proofs.Choices.{none-some, some_inj}
 use Rattle.invariant.specs.Invariant.{In}
@@ -63,14 +64,14 @@ keep-in q a (x ∷ xs) (inr h) t = in_right a (cond (q x) (x ∷ []) []) (keep q
 -- ── Places ──────────────────────────────────────────────────────────────────
 
 module _ {A : Type 0} where
-  pub nth-same : (f : A → A) (xs : List A) (i : ℕ) → nth (modify i f xs) i ≡ omap f (nth xs i)
-  unfolding nth modify
+  pub nth-same : (f : A → A) (xs : List A) (i : ℕ) → slice_get (modify i f xs) i ≡ option_map f (slice_get xs i)
+  unfolding modify
   nth-same f [] i = refl
   nth-same f (x ∷ xs) zero = refl
   nth-same f (x ∷ xs) (suc i) = nth-same f xs i
 
-  pub nth-other : (f : A → A) (xs : List A) (i j : ℕ) → (j ≡ i → ⊥) → nth (modify i f xs) j ≡ nth xs j
-  unfolding modify nth
+  pub nth-other : (f : A → A) (xs : List A) (i j : ℕ) → (j ≡ i → ⊥) → slice_get (modify i f xs) j ≡ slice_get xs j
+  unfolding modify
   nth-other f [] i j n = refl
   nth-other f (x ∷ xs) zero zero n = absurd (n refl)
   nth-other f (x ∷ xs) zero (suc j) n = refl
@@ -83,36 +84,35 @@ module _ {A : Type 0} where
   length-modify f zero (x ∷ xs) = refl
   length-modify f (suc i) (x ∷ xs) = ap suc (length-modify f i xs)
 
-  pub nth-short : (xs : List A) (i : ℕ) (a : A) → nth xs i ≡ some a → i < length xs
-  unfolding nth
+  pub nth-short : (xs : List A) (i : ℕ) (a : A) → slice_get xs i ≡ Some a → i < length xs
   nth-short [] i a h = none-some a h
   nth-short (x ∷ xs) zero a h = omega arith
   nth-short (x ∷ xs) (suc i) a h = let k = nth-short xs i a h in omega arith
 
   -- A search that finds, and one that does not.
   pub find-hit
-      : (q : ℕ → A → Bool) (i : ℕ) (xs : List A) (k : ℕ) → find_at q i xs ≡ some k
-      → (n : ℕ) × (k ≡ i + n) × ((x : A) × (nth xs n ≡ some x) × (q k x ≡ true))
-  unfolding find_at nth
+      : (q : ℕ → A → Bool) (i : ℕ) (xs : List A) (k : ℕ) → find_at q i xs ≡ Some k
+      → (n : ℕ) × (k ≡ i + n) × ((x : A) × (slice_get xs n ≡ Some x) × (q k x ≡ true))
+  unfolding find_at
   find-hit q i [] k h = none-some k h
   find-hit q i (x ∷ xs) k h = go (λ r. find-hit q (suc i) xs k r) (q i x) refl h
     where
       go
-          : (find_at q (suc i) xs ≡ some k → (n : ℕ) × (k ≡ suc i + n) × ((y : A) × (nth xs n ≡ some y) × (q k y ≡ true))) → (b : Bool)
-          → q i x ≡ b → or_else (cond b (some i) none) (find_at q (suc i) xs) ≡ some k
-          → (n : ℕ) × (k ≡ i + n) × ((y : A) × (nth (x ∷ xs) n ≡ some y) × (q k y ≡ true))
+          : (find_at q (suc i) xs ≡ Some k → (n : ℕ) × (k ≡ suc i + n) × ((y : A) × (slice_get xs n ≡ Some y) × (q k y ≡ true))) → (b : Bool)
+          → q i x ≡ b → option_or (cond b (Some i) None) (find_at q (suc i) xs) ≡ Some k
+          → (n : ℕ) × (k ≡ i + n) × ((y : A) × (slice_get (x ∷ xs) n ≡ Some y) × (q k y ≡ true))
       go ih true e r = let ki : i ≡ k = some_inj i k r in (0, omega arith, (x, refl, subst (λ (z : ℕ). q z x ≡ true) ki e))
       go ih false e r = let w = ih r in (suc w.0, omega (arith, w.1), w.2)
 
   pub find-miss
-      : (q : ℕ → A → Bool) (i : ℕ) (xs : List A) → find_at q i xs ≡ none → (n : ℕ) (x : A) → nth xs n ≡ some x → q (i + n) x ≡ false
-  unfolding nth find_at
+      : (q : ℕ → A → Bool) (i : ℕ) (xs : List A) → find_at q i xs ≡ None → (n : ℕ) (x : A) → slice_get xs n ≡ Some x → q (i + n) x ≡ false
+  unfolding find_at
   find-miss q i [] h n x k = none-some x k
   find-miss q i (y ∷ ys) h n x k = go (λ r. find-miss q (suc i) ys r) (q i y) refl h n k
     where
       go
-          : (find_at q (suc i) ys ≡ none → (n : ℕ) (x : A) → nth ys n ≡ some x → q (suc i + n) x ≡ false) → (b : Bool) → q i y ≡ b
-          → or_else (cond b (some i) none) (find_at q (suc i) ys) ≡ none → (n : ℕ) → nth (y ∷ ys) n ≡ some x → q (i + n) x ≡ false
+          : (find_at q (suc i) ys ≡ None → (n : ℕ) (x : A) → slice_get ys n ≡ Some x → q (suc i + n) x ≡ false) → (b : Bool) → q i y ≡ b
+          → option_or (cond b (Some i) None) (find_at q (suc i) ys) ≡ None → (n : ℕ) → slice_get (y ∷ ys) n ≡ Some x → q (i + n) x ≡ false
       go ih true e r n k = none-some i (sym r)
       go ih false e r zero k =
           let z : i + 0 ≡ i = omega arith in
@@ -131,14 +131,14 @@ module _ {A B : Type 0} (e : A → B) where
   map_same f r [] = refl
   map_same f r (x ∷ xs) = ap₂ {B = List B} ◌∷◌ (r x) (map_same f r xs)
 
-  pub omap-back : (o : Option A) (b : B) → omap e o ≡ some b → (a : A) × (o ≡ some a) × (e a ≡ b)
-  omap-back none b h = none-some b h
-  omap-back (some a) b h = (a, refl, some_inj (e a) b h)
+  pub omap-back : (o : Option A) (b : B) → option_map e o ≡ Some b → (a : A) × (o ≡ Some a) × (e a ≡ b)
+  omap-back None b h = none-some b h
+  omap-back (Some a) b h = (a, refl, some_inj (e a) b h)
 
   -- What stands at a place of a list with the same image.
-  pub nth-image : (xs ys : List A) (i : ℕ) (y : A) → map e xs ≡ map e ys → nth ys i ≡ some y → (x : A) × (nth xs i ≡ some x) × (e x ≡ e y)
+  pub nth-image : (xs ys : List A) (i : ℕ) (y : A) → map e xs ≡ map e ys → slice_get ys i ≡ Some y → (x : A) × (slice_get xs i ≡ Some x) × (e x ≡ e y)
   nth-image xs ys i y h q =
-      omap-back (nth xs i) (e y) (sym (nth-map e xs i) ∙ ap (λ (l : List B). nth l i) h ∙ nth-map e ys i ∙ ap (omap e) q)
+      omap-back (slice_get xs i) (e y) (sym (nth-map e xs i) ∙ ap (λ (l : List B). slice_get l i) h ∙ nth-map e ys i ∙ ap (option_map e) q)
 
 -- ── Membership of numbers ───────────────────────────────────────────────────
 
@@ -157,8 +157,7 @@ in-dec r (x ∷ xs) = go (eqb r x) refl (in-dec r xs)
 
 -- ── Every element, and those that pass ──────────────────────────────────────
 
-pub all-at : {A : Type 0} (P : A → Type 0) (xs : List A) (i : ℕ) (a : A) → nth xs i ≡ some a → All P xs → P a
-unfolding nth
+pub all-at : {A : Type 0} (P : A → Type 0) (xs : List A) (i : ℕ) (a : A) → slice_get xs i ≡ Some a → All P xs → P a
 all-at P [] i a e h = none-some a e
 all-at P (x ∷ xs) zero a e h = subst P (some_inj x a e) h.0
 all-at P (x ∷ xs) (suc i) a e h = all-at P xs i a e h.1
@@ -179,18 +178,16 @@ module _ {A : Type 0} (q : A → Bool) where
   keep-empty (x ∷ xs) h = refl
 
 module _ {A : Type 0} (p : A → Bool) where
-  pub any_none : (xs : List A) → any p xs ≡ false → All (λ (x : A). p x ≡ false) xs
-  unfolding any
+  pub any_none : (xs : List A) → list_any p xs ≡ false → All (λ (x : A). p x ≡ false) xs
   any_none [] h = tt
-  any_none (x ∷ xs) h = let a = or-neither (p x) (any p xs) h in (a.0, any_none xs a.1)
+  any_none (x ∷ xs) h = let a = or-neither (p x) (list_any p xs) h in (a.0, any_none xs a.1)
 
   -- A list that is no longer than n, of which the first n were searched.
-  pub any-taken : (n : ℕ) (xs : List A) → length xs ≤ n → any p (take n xs) ≡ false → All (λ (x : A). p x ≡ false) xs
-  unfolding any
+  pub any-taken : (n : ℕ) (xs : List A) → length xs ≤ n → list_any p (take n xs) ≡ false → All (λ (x : A). p x ≡ false) xs
   any-taken n [] l h = tt
   any-taken zero (x ∷ xs) l h = absurd (omega arith)
   any-taken (suc n) (x ∷ xs) l h =
-      let a = or-neither (p x) (any p (take n xs)) h in (a.0, any-taken n xs (omega arith) a.1)
+      let a = or-neither (p x) (list_any p (take n xs)) h in (a.0, any-taken n xs (omega arith) a.1)
 
 pub all_in : {A : Type 0} (P : A → Type 0) (xs : List A) (a : A) → In a xs → All P xs → P a
 all_in P [] a n h = absurd n
@@ -198,7 +195,6 @@ all_in P (x ∷ xs) a (inl e) h = subst P (sym e) h.0
 all_in P (x ∷ xs) a (inr n) h = all_in P xs a n h.1
 
 -- What stands in a list stands in a longer one, further on.
-pub nth_after : {A : Type 0} (xs ys : List A) (i : ℕ) (a : A) → nth ys i ≡ some a → (j : ℕ) × (nth (xs ++ ys) j ≡ some a)
-unfolding nth
+pub nth_after : {A : Type 0} (xs ys : List A) (i : ℕ) (a : A) → slice_get ys i ≡ Some a → (j : ℕ) × (slice_get (xs ++ ys) j ≡ Some a)
 nth_after [] ys i a e = (i, e)
 nth_after (x ∷ xs) ys i a e = let w = nth_after xs ys i a e in (suc w.0, w.1)

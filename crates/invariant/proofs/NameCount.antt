@@ -3,12 +3,12 @@ use Prim.Native.Nat.{ℕ, zero, suc, ◌≤◌}
 use native.Mathlib.Omega.{arith}
 use mathlib.Core.Path.{◌≡◌, refl, sym, ◌∙◌, ap, ap₂, subst}
 use mathlib.Core.Bool.{Bool, true, false, cond}
-use mathlib.Core.Option.{Option, none, some}
+use Rattle.std.specs.Prelude.{Option, None, Some, slice_get}
 use mathlib.Core.List.{List, [], ◌∷◌, ◌++◌, map}
 use lib.Dec.{ltb}
 use lib.ListN.{length}
 use borrow.Author.Tests.{ltb-false}
-use Rattle.laws.specs.Lists.{All, All2, modify, more2, none2, nth}
+use Rattle.laws.specs.Lists.{All, All2, modify, more2, none2}
 use Rattle.laws.specs.Texts.{Text, same}
 use Rattle.laws.proofs.Choices.{either, none-some, some_inj, false-T}
 use Rattle.laws.proofs.Same.{same-of-eq}
@@ -64,8 +64,8 @@ unfolding registers
 resolve-longer ns i =
     omega (arith, names-longer i.sources ns, names-longer i.writes (all-names ns i.sources))
 
-intern-known : (a : Text) (ns : List Text) (k : ℕ) → nth ns k ≡ some a → (intern ns a).names ≡ ns
-unfolding registers nth
+intern-known : (a : Text) (ns : List Text) (k : ℕ) → slice_get ns k ≡ Some a → (intern ns a).names ≡ ns
+unfolding registers
 intern-known a [] k p = none-some a p
 intern-known a (x ∷ xs) zero p =
     either (λ (z : Interned). z.names ≡ x ∷ xs) (same x a) (interned 0 (x ∷ xs)) (interned (suc (intern xs a).number) (x ∷ (intern xs a).names))
@@ -135,17 +135,17 @@ names-few-to
     : (ns : List Text) (o : Op) (rest : List Op) (r w : List ℕ) (tk fr : Option ℕ) (s : State) → s.queue ≡ o ∷ rest
     → s.names ≡ (resolve ns o.info).names → count_of ns (o ∷ rest) ≤ 256 → NamesFew (issue_to o rest r w tk fr s)
 unfolding registers calls issuing
-names-few-to ns o rest r w (some x) fr s p q h =
-    rw (names-front (some WriteAfterWrite) s.queue, p, q, stayed-names ns o rest, ← (looked-names ns o rest)) h
-names-few-to ns o rest r w none none s p q h =
-    rw (names-front (some FunctionalUnitBusy) s.queue, p, q, stayed-names ns o rest, ← (looked-names ns o rest)) h
-names-few-to ns o rest r w none (some n) s p q h = rw (q, ← (looked-names ns o rest)) h
+names-few-to ns o rest r w (Some x) fr s p q h =
+    rw (names-front (Some WriteAfterWrite) s.queue, p, q, stayed-names ns o rest, ← (looked-names ns o rest)) h
+names-few-to ns o rest r w None None s p q h =
+    rw (names-front (Some FunctionalUnitBusy) s.queue, p, q, stayed-names ns o rest, ← (looked-names ns o rest)) h
+names-few-to ns o rest r w None (Some n) s p q h = rw (q, ← (looked-names ns o rest)) h
 
 names-few-choose
     : (b y : Bool) (o : Op) (rest : List Op) (s : State) → s.queue ≡ o ∷ rest → NamesFew s → NamesFew (issue_choose b y o rest s)
 unfolding issuing registers calls
-names-few-choose true y o rest s p h = rw (names-front (some BranchFlush) s.queue) h
-names-few-choose false true o rest s p h = rw (names-front (some FunctionalUnitBusy) s.queue) h
+names-few-choose true y o rest s p h = rw (names-front (Some BranchFlush) s.queue) h
+names-few-choose false true o rest s p h = rw (names-front (Some FunctionalUnitBusy) s.queue) h
 names-few-choose false false o rest s p h =
     let x = resolve s.names o.info in
     names-few-to s.names o rest x.read x.written (taken (learn x.names s).producer x.written)
@@ -165,13 +165,13 @@ unfolding scoreboard issuing
 names_few-closed s h = go s.offer.writing
   where
     go : (w : Option ℕ) → NamesFew (close_cycle (complete_offer w s))
-    go none = h
-    go (some n) = h
+    go None = h
+    go (Some n) = h
 
 names_few-before : (r : Option ℕ) (s : State) → NamesFew s → NamesFew (before_issue r s)
 unfolding registers calls writing issuing scoreboard
-names_few-before none s h = h
-names_few-before (some n) s h = omega (arith, h, names-longer (names_in s.queue) s.names)
+names_few-before None s h = h
+names_few-before (Some n) s h = omega (arith, h, names-longer (names_in s.queue) s.names)
 
 names_few-advance : (r : Option ℕ) (s : State) → NamesFew s → NamesFew (advance r s)
 unfolding scoreboard issuing
@@ -181,7 +181,7 @@ names_few-advance r s h = go (stops s)
     go true = names_few-closed s h
     go false = names_few-issue (before_issue r (closed s)) (names_few-before r (closed s) (names_few-closed s h))
 
-names_few-fetched : (g : Given) (ml : ℕ) (s : State) → refusal s (fetch g ml) ≡ none → NamesFew (fetched g s)
+names_few-fetched : (g : Given) (ml : ℕ) (s : State) → refusal s (fetch g ml) ≡ None → NamesFew (fetched g s)
 unfolding registers calls scoreboard
 names_few-fetched g ml s p =
     let few : ltb 256 (names_with s g.info) ≡ false = (taken-checks s (fetch g ml) p).1.1.1.1.1.0 in
@@ -190,9 +190,9 @@ names_few-fetched g ml s p =
 pub known-few : (s : State) → NamesFew s → length s.names ≤ 256
 known-few s h = omega (arith, h, names-longer (names_in s.queue) s.names)
 
-pub names_few-run : (s : State) (c : Call) → refusal s c ≡ none → NamesFew s → NamesFew (run s c)
+pub names_few-run : (s : State) (c : Call) → refusal s c ≡ None → NamesFew s → NamesFew (run s c)
 unfolding registers calls writing issuing scoreboard
-names_few-run s start p h = rw (names-mapped (with_hazard none) (λ o. refl) s.queue) h
+names_few-run s start p h = rw (names-mapped (with_hazard None) (λ o. refl) s.queue) h
 names_few-run s retire p h = h
 names_few-run s (retry-call x) p h = h
 names_few-run s (resolve-call a) p h = h

@@ -3,11 +3,11 @@ use Prim.Native.Nat.{ℕ, zero, suc, ◌+◌}
 use native.Mathlib.Omega.{arith}
 use mathlib.Core.Path.{◌≡◌, refl, sym, ◌∙◌, ap, ap₂, subst}
 use mathlib.Core.Bool.{Bool, true, false, cond}
-use mathlib.Core.Option.{Option, none, some}
+use Rattle.std.specs.Prelude.{Option, None, Some, slice_get}
 use mathlib.Core.List.{List, [], ◌∷◌}
 use mathlib.Core.Logic.{◌⊎◌, inl, inr}
 use lib.Dec.{ltb}
-use Rattle.laws.specs.Lists.{lists, nth}
+use Rattle.laws.specs.Lists.{lists}
 use Rattle.laws.proofs.Choices.{none-some, some_inj}
 use Rattle.capability.specs.declared.Phase.TheVariants.{Write}
 use Rattle.model.specs.Units.{FunctionalUnit, in_phase, seq_of}
@@ -26,7 +26,7 @@ insert-in p q (x ∷ qs) h = go (insert-in p q qs) (ltb x.0 q.0) h
     go ih false k = k
 
 pub in-ready
-    : (i : ℕ) (us : List FunctionalUnit) (m : ℕ) (u : FunctionalUnit) → nth us m ≡ some u → in_phase Write u ≡ true
+    : (i : ℕ) (us : List FunctionalUnit) (m : ℕ) (u : FunctionalUnit) → slice_get us m ≡ Some u → in_phase Write u ≡ true
     → In {A = ℕ × ℕ} (seq_of u, i + m) (ready_at i us)
 unfolding writing lists
 in-ready i [] m u e p = none-some u e
@@ -48,16 +48,16 @@ in-ready i (v ∷ us) (suc m) u e p =
 
 -- The first that nothing blocks is found.
 pub try-some
-    : (us : List FunctionalUnit) (qs : List (ℕ × ℕ)) (m j : ℕ) → In {A = ℕ × ℕ} (m, j) qs → write_blocked us j ≡ none
-    → (i : ℕ) × ((try_writes us qs).found ≡ some i)
+    : (us : List FunctionalUnit) (qs : List (ℕ × ℕ)) (m j : ℕ) → In {A = ℕ × ℕ} (m, j) qs → write_blocked us j ≡ None
+    → (i : ℕ) × ((try_writes us qs).found ≡ Some i)
 unfolding writing
 try-some us [] m j n b = absurd n
 try-some us (q ∷ qs) m j n b = go (write_blocked us q.1) refl n (λ k. try-some us qs m j k b)
   where
     go
         : (o : Option Blocked) → write_blocked us q.1 ≡ o → In {A = ℕ × ℕ} (m, j) (q ∷ qs)
-        → (In {A = ℕ × ℕ} (m, j) qs → (i : ℕ) × ((try_writes us qs).found ≡ some i))
-        → (i : ℕ) × ((try_one q.1 o (try_writes us qs)).found ≡ some i)
-    go none f n ih = (q.1, refl)
-    go (some c) f (inl z) ih = none-some c (sym b ∙ ap (write_blocked us) (ap (λ (y : ℕ × ℕ). y.1) z) ∙ f)
-    go (some c) f (inr k) ih = ih k
+        → (In {A = ℕ × ℕ} (m, j) qs → (i : ℕ) × ((try_writes us qs).found ≡ Some i))
+        → (i : ℕ) × ((try_one q.1 o (try_writes us qs)).found ≡ Some i)
+    go None f n ih = (q.1, refl)
+    go (Some c) f (inl z) ih = none-some c (sym b ∙ ap (write_blocked us) (ap (λ (y : ℕ × ℕ). y.1) z) ∙ f)
+    go (Some c) f (inr k) ih = ih k

@@ -3,10 +3,11 @@ use Prim.Native.Nat.{ℕ, zero, suc, ◌+◌, ◌-◌, max, ◌≤◌, ◌<◌}
 use native.Mathlib.Omega.{arith}
 use mathlib.Core.Path.{◌≡◌, refl, sym, ◌∙◌, ap, subst}
 use mathlib.Core.Bool.{Bool, true, false}
-use mathlib.Core.Option.{Option, none, some}
+use Rattle.std.specs.Prelude.{Option, None, Some, slice_get}
 use mathlib.Core.List.{List, [], ◌∷◌, ◌++◌, map}
 use lib.ListN.{length, length-append}
-use Rattle.laws.specs.Lists.{All, any, find_at, modify, nth}
+use Rattle.laws.specs.Lists.{All, find_at, modify}
+use Rattle.std.specs.List.{list_any}
 use Rattle.laws.specs.Numbers.{max64, saturating_add}
 use Rattle.laws.specs.Optional.{value_or}
 use Rattle.laws.specs.Texts.{texts}
@@ -26,7 +27,7 @@ use Rattle.invariant.specs.Invariant.{Built, Consecutive, CountersFit, KindsFit,
 use Rattle.invariant.proofs.Lists.{nth-image, nth_after, find-hit, length-modify, nth-short}
 use Rattle.invariant.proofs.Counters.{counters-none, sum_few}
 use Rattle.invariant.proofs.Timeline.{open-few, open-fits, open-ids}
-use Rattle.invariant.proofs.Steps.{NameFits, Step, step-advance, step-overlap, step-retire, step-retry, step_start, step-stopped}
+use Rattle.invariant.proofs.Steps.{Fits, Step, step-advance, step-overlap, step-retire, step-retry, step_start, step-stopped}
 use Rattle.invariant.proofs.Taken.{info-texts, FetchTaken, MakeTaken, capacity-taken, fetch-taken, next-number}
 use Rattle.invariant.proofs.Flight.{noted}
 
@@ -41,7 +42,7 @@ pub record Sizes (s : State) : Type 0 where
   pub long : (1 ≤ s.machine.history) × (s.machine.history ≤ 256)
   pub times : extra_overflows s.machine.times ≡ false
   pub distinct : Distinct s.names
-  pub names : All NameFits s.names
+  pub names : All Fits s.names
   pub registers : length s.producer ≡ length s.names
   pub ids : Consecutive (row_ids s.log.rows) s.front.next_row
   pub rows_few : length s.log.rows ≤ s.machine.history
@@ -130,14 +131,14 @@ units-count s ks h =
 -- Each kind has a unit.
 built-has
     : (spec : ℕ) (ks : List UnitSpec) → All (λ (k : UnitSpec). 1 ≤ k.capacity) ks → (k : ℕ) → k < length ks
-    → (i : ℕ) × (u : FunctionalUnit) × (nth (build_units spec ks) i ≡ some u) × (u.spec ≡ spec + k)
-unfolding units nth
+    → (i : ℕ) × (u : FunctionalUnit) × (slice_get (build_units spec ks) i ≡ Some u) × (u.spec ≡ spec + k)
+unfolding units
 built-has spec [] h k l = absurd (omega arith)
 built-has spec (x ∷ ks) h zero l = go x.capacity h.0
   where
     go
         : (c : ℕ) → 1 ≤ c
-        → (i : ℕ) × (u : FunctionalUnit) × (nth (instances spec 0 c ++ build_units (suc spec) ks) i ≡ some u) × (u.spec ≡ spec + 0)
+        → (i : ℕ) × (u : FunctionalUnit) × (slice_get (instances spec 0 c ++ build_units (suc spec) ks) i ≡ Some u) × (u.spec ≡ spec + 0)
     go zero e = absurd (omega arith)
     go (suc c) e = (0, idle_unit spec 0, refl, omega arith)
 built-has spec (x ∷ ks) h (suc k) l =
@@ -147,7 +148,7 @@ built-has spec (x ∷ ks) h (suc k) l =
 
 pub kind-unit
     : (s : State) (ks : List UnitSpec) → Built s ks → (k : ℕ) → k < length s.machine.specs
-    → (i : ℕ) × (u : FunctionalUnit) × (nth s.units i ≡ some u) × (u.spec ≡ k)
+    → (i : ℕ) × (u : FunctionalUnit) × (slice_get s.units i ≡ Some u) × (u.spec ≡ k)
 kind-unit s ks b k l =
     let same : length (map (with_capacity 1) ks) ≡ length (map (with_capacity 1) s.machine.specs) = ap length b.same_kinds in
     let w =
@@ -202,7 +203,7 @@ sizes-noted k m s us f b h =
 
 sizes-capacity : (k m : ℕ) (s : State) → capacities (with_noted k m s) ≤ 64 → Sizes s → Sizes (set_capacity k m s)
 unfolding scoreboard
-sizes-capacity k m s c h = go (any is_busy s.units) (kinds-noted m k s.machine.specs c h.kinds)
+sizes-capacity k m s c h = go (list_any is_busy s.units) (kinds-noted m k s.machine.specs c h.kinds)
   where
     go : (b : Bool) → KindsFit (with_noted k m s) → Sizes (noted k m s (rebuilt b (with_noted k m s) s.units))
     go true f =
@@ -323,7 +324,7 @@ sizes-reset a false s h =
 -- ── Making ──────────────────────────────────────────────────────────────────
 
 kinds-made : (d : PipelineShape) → MakeTaken d → KindsFit (specs_or_generic d.units)
-unfolding config calls texts any
+unfolding config calls texts
 kinds-made d t = go d.units t.kinds t.capacity t.names
   where
     go
@@ -353,8 +354,8 @@ unfolding config
 depth-made stages h = (omega arith, go (find_at is_execute 0 stages) refl)
   where
     go : (o : Option ℕ) → find_at is_execute 0 stages ≡ o → max 1 (value_or (length stages - 1) o) ≤ 15
-    go none e = omega arith
-    go (some k) e =
+    go None e = omega arith
+    go (Some k) e =
         let w = find-hit is_execute 0 stages k e in omega (arith, w.1, nth-short stages w.0 w.2.0 w.2.1)
 
 pub sizes-made : (d : PipelineShape) (entry : ℕ) → MakeTaken d → Sizes (new d entry)
@@ -382,7 +383,7 @@ sizes-made d entry t =
 -- ── Every call ──────────────────────────────────────────────────────────────
 
 pub sizes_run
-    : (s : State) (c : Call) → refusal s c ≡ none → (s.front.invited ≡ true → length s.queue < s.machine.depth) → Sizes s
+    : (s : State) (c : Call) → refusal s c ≡ None → (s.front.invited ≡ true → length s.queue < s.machine.depth) → Sizes s
     → Sizes (run s c)
 unfolding calls scoreboard writing
 sizes_run s start p v h = sizes_step s (start_cycle s) (step_start s) h

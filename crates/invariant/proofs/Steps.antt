@@ -3,7 +3,7 @@ use Prim.Native.Nat.{ℕ, suc, ◌≤◌}
 use native.Mathlib.Omega.{arith}
 use mathlib.Core.Path.{◌≡◌, refl, sym, ◌∙◌, ap, subst}
 use mathlib.Core.Bool.{Bool, true, false, cond}
-use mathlib.Core.Option.{Option, none, some}
+use Rattle.std.specs.Prelude.{Option, None, Some}
 use mathlib.Core.List.{List, [], ◌∷◌, map}
 use lib.ListN.{length}
 use Rattle.laws.specs.Lists.{All, modify}
@@ -32,8 +32,8 @@ use Rattle.invariant.proofs.Timeline.{all-pushed-ids, all-push-fits}
 use Rattle.invariant.proofs.Taken.{info-texts}
 use Rattle.invariant.proofs.Entries.{marked-same}
 
-abbrev pub NameFits : Text → Type 0
-NameFits a = bad_text 16 a ≡ false
+abbrev pub Fits : Text → Type 0
+Fits a = bad_text 16 a ≡ false
 
 -- t is s after steps that fetch nothing: the queue only loses, and these stay or are kept.
 pub record Step (s t : State) : Type 0 where
@@ -45,7 +45,7 @@ pub record Step (s t : State) : Type 0 where
   pub shorter : length t.queue ≤ length s.queue
   pub queued : All OperationFits s.queue → All OperationFits t.queue
   pub distinct : Distinct s.names → Distinct t.names
-  pub names : All OperationFits s.queue → All NameFits s.names → All NameFits t.names
+  pub names : All OperationFits s.queue → All Fits s.names → All Fits t.names
   pub registers : length s.producer ≡ length s.names → length t.producer ≡ length t.names
   pub rows : All RowFits s.log.rows → All RowFits t.log.rows
   pub counters : CountersFit s.log.stats → CountersFit t.log.stats
@@ -82,7 +82,7 @@ step-units s t m a b r c q ns p us =
       shorter = omega (arith, ap length q);
       queued = λ x. subst (All OperationFits) (sym q) x;
       distinct = λ x. subst Distinct (sym ns) x;
-      names = λ q x. subst (All NameFits) (sym ns) x;
+      names = λ q x. subst (All Fits) (sym ns) x;
       registers = λ x. p ∙ x ∙ ap length (sym ns);
       rows = λ x. subst (All RowFits) (sym r) x;
       counters = λ x. subst CountersFit (sym c) x;
@@ -92,13 +92,13 @@ step-units s t m a b r c q ns p us =
 
 places-out : (f : Option ℕ) (us : List FunctionalUnit) → map unit_place (take_out f us) ≡ map unit_place us
 unfolding writing
-places-out none us = refl
-places-out (some i) us = map-modified unit_place (with_busy false) (λ u. refl) i us
+places-out None us = refl
+places-out (Some i) us = map-modified unit_place (with_busy false) (λ u. refl) i us
 
 places-back : (w : Option ℕ) (us : List FunctionalUnit) → map unit_place (put_back w us) ≡ map unit_place us
 unfolding writing
-places-back none us = refl
-places-back (some i) us = map-modified unit_place (with_busy true) (λ u. refl) i us
+places-back None us = refl
+places-back (Some i) us = map-modified unit_place (with_busy true) (λ u. refl) i us
 
 places-three : (us : List FunctionalUnit) → map unit_place (map read_one (map begin (map tick us))) ≡ map unit_place us
 unfolding units
@@ -120,8 +120,8 @@ step_start s =
       places =
           places-out t.found (mark_blocked t.turned_away us) ∙ marked-same unit_place (λ x u. refl) t.turned_away us
           ∙ map_same unit_place clear_hazard (λ u. refl) s.units;
-      shorter = omega (arith, length-of (with_hazard none) s.queue);
-      queued = all_map OperationFits OperationFits (with_hazard none) (fits-hazard none) s.queue;
+      shorter = omega (arith, length-of (with_hazard None) s.queue);
+      queued = all_map OperationFits OperationFits (with_hazard None) (fits-hazard None) s.queue;
       distinct = λ d. d;
       names = λ q x. x;
       registers = λ e. e;
@@ -165,7 +165,7 @@ step-stopped a b x s =
       queued = λ y. tt;
       distinct = λ y. y;
       names = λ q x. x;
-      registers = λ y. length-of (λ (p : Option ℕ). none) s.producer ∙ y;
+      registers = λ y. length-of (λ (p : Option ℕ). None) s.producer ∙ y;
       rows = λ y. y;
       counters = λ y. y;
     }
@@ -181,15 +181,15 @@ unfolding scoreboard issuing units
 step-closed s = go s.offer.writing
   where
     go : (w : Option ℕ) → Step s (close_cycle (complete_offer w s))
-    go none = step-units s (close_cycle s) refl refl refl refl refl refl refl refl refl
-    go (some i) =
-        step-units s (close_cycle (complete_offer (some i) s)) refl refl refl refl refl refl refl
+    go None = step-units s (close_cycle s) refl refl refl refl refl refl refl refl refl
+    go (Some i) =
+        step-units s (close_cycle (complete_offer (Some i) s)) refl refl refl refl refl refl refl
         (releases-length i (unit_at s.units i).destinations s.producer)
         (map_same unit_place (without_waits i) (λ u. refl) (modify i clear s.units) ∙ map-modified unit_place clear (λ u. refl) i s.units)
 
 pub step-before : (r : Option ℕ) (s : State) → Step s (before_issue r s)
 unfolding scoreboard issuing stall_all
-step-before none s =
+step-before None s =
     record {
       machine = refl;
       next_seq = refl;
@@ -204,7 +204,7 @@ step-before none s =
       rows = λ x. x;
       counters = counters-stalls _ s.log.stats;
     }
-step-before (some n) s =
+step-before (Some n) s =
     record {
       machine = refl;
       next_seq = refl;
@@ -230,8 +230,8 @@ step-blocked x d s =
       next_row = refl;
       ids = refl;
       places = refl;
-      shorter = omega (arith, length-modify (with_hazard (some x)) 0 s.queue);
-      queued = all-modify OperationFits 0 (with_hazard (some x)) (fits-hazard (some x)) s.queue;
+      shorter = omega (arith, length-modify (with_hazard (Some x)) 0 s.queue);
+      queued = all-modify OperationFits 0 (with_hazard (Some x)) (fits-hazard (Some x)) s.queue;
       distinct = λ y. y;
       names = λ q x. x;
       registers = λ y. y;
@@ -240,7 +240,7 @@ step-blocked x d s =
     }
 
 -- The names of an operation that fits.
-operation-names : (o : Op) → OperationFits o → All NameFits o.info.sources × All NameFits o.info.writes
+operation-names : (o : Op) → OperationFits o → All Fits o.info.sources × All Fits o.info.writes
 operation-names o f =
     let t = info-texts o.info f.texts_fit in (
       any-taken (bad_text 16) 8 o.info.sources f.sources_few t.1,
@@ -248,7 +248,7 @@ operation-names o f =
     )
 
 step-learn
-    : (i : Info) (s : State) → (All OperationFits s.queue → All NameFits i.sources × All NameFits i.writes)
+    : (i : Info) (s : State) → (All OperationFits s.queue → All Fits i.sources × All Fits i.writes)
     → Step s (learn (resolve s.names i).names s)
 unfolding issuing registers
 step-learn i s g =
@@ -261,7 +261,7 @@ step-learn i s g =
       shorter = omega arith;
       queued = λ x. x;
       distinct = resolve-distinct s.names i;
-      names = λ q x. names-all NameFits i.writes (all-names s.names i.sources) (g q).1 (names-all NameFits i.sources s.names (g q).0 x);
+      names = λ q x. names-all Fits i.writes (all-names s.names i.sources) (g q).1 (names-all Fits i.sources s.names (g q).0 x);
       registers = λ x. pad-length s.producer (resolve s.names i).names (omega (arith, x, resolve-longer s.names i));
       rows = λ x. x;
       counters = λ x. x;
@@ -269,9 +269,9 @@ step-learn i s g =
 
 step-to : (o : Op) (rest : List Op) (r w : List ℕ) (t f : Option ℕ) (s : State) → s.queue ≡ o ∷ rest → Step s (issue_to o rest r w t f s)
 unfolding issuing units
-step-to o rest r w (some x) f s q = step-blocked WriteAfterWrite _ s
-step-to o rest r w none none s q = step-blocked FunctionalUnitBusy _ s
-step-to o rest r w none (some i) s q =
+step-to o rest r w (Some x) f s q = step-blocked WriteAfterWrite _ s
+step-to o rest r w None None s q = step-blocked FunctionalUnitBusy _ s
+step-to o rest r w None (Some i) s q =
     let long : length s.queue ≡ suc (length rest) = ap length q in
     record {
       machine = refl;

@@ -3,11 +3,12 @@ use Prim.Native.Nat.{ℕ, ◌≤◌, suc}
 use native.Mathlib.Omega.{arith}
 use mathlib.Core.Path.{◌≡◌, refl}
 use mathlib.Core.Bool.{Bool, true, false, ◌||◌, true≢false}
-use mathlib.Core.Option.{Option, none, some}
+use Rattle.std.specs.Prelude.{Option, None, Some}
 use lib.Dec.{eqb, ltb}
 use lib.ListN.{length, take}
 use borrow.Author.Tests.{eqb-false, ltb-false}
-use Rattle.laws.specs.Lists.{All, any}
+use Rattle.laws.specs.Lists.{All}
+use Rattle.std.specs.List.{list_any}
 use Rattle.laws.specs.Numbers.{max64, saturating_add}
 use Rattle.laws.specs.Optional.{is_none, when_some}
 use Rattle.laws.specs.Texts.{Text}
@@ -20,30 +21,30 @@ use Rattle.refusals.proofs.Demand1.{none-holds, taken-checks}
 use Rattle.invariant.proofs.Bools.{not-false, or-neither}
 use Rattle.invariant.proofs.Lists.{any_none}
 
-pub retry-text : (s : State) (x : Text) → refusal s (retry x) ≡ none → bad_text 64 x ≡ false
+pub retry-text : (s : State) (x : Text) → refusal s (retry x) ≡ None → bad_text 64 x ≡ false
 unfolding calls
 retry-text s x p = (taken-checks s (retry x) p).1.1.0
 
-pub fault-text : (s : State) (x : Text) → refusal s (fault x) ≡ none → bad_text 64 x ≡ false
+pub fault-text : (s : State) (x : Text) → refusal s (fault x) ≡ None → bad_text 64 x ≡ false
 unfolding calls
 fault-text s x p = (taken-checks s (fault x) p).0
 
-pub start_outside : (s : State) → refusal s start ≡ none → s.front.in_cycle ≡ false
+pub start_outside : (s : State) → refusal s start ≡ None → s.front.in_cycle ≡ false
 unfolding calls
 start_outside s p = (taken-checks s start p).0
 
-pub advance-inside : (s : State) (r : Option ℕ) (ml : ℕ) → refusal s (advance r ml) ≡ none → s.front.in_cycle ≡ true
+pub advance-inside : (s : State) (r : Option ℕ) (ml : ℕ) → refusal s (advance r ml) ≡ None → s.front.in_cycle ≡ true
 unfolding calls
 advance-inside s r ml p = not-false s.front.in_cycle (taken-checks s (advance r ml) p).0
 
-pub retire_offer : (s : State) → refusal s retire ≡ none → (i : ℕ) × (s.offer.writing ≡ some i)
+pub retire_offer : (s : State) → refusal s retire ≡ None → (i : ℕ) × (s.offer.writing ≡ Some i)
 unfolding calls
 retire_offer s p =
     go s.offer.writing refl (or-neither (is_none s.offer.writing) s.offer.retired (taken-checks s retire p).1.0).0
   where
-    go : (w : Option ℕ) → s.offer.writing ≡ w → is_none w ≡ false → (i : ℕ) × (s.offer.writing ≡ some i)
-    go none e h = absurd (true≢false h)
-    go (some i) e h = (i, e)
+    go : (w : Option ℕ) → s.offer.writing ≡ w → is_none w ≡ false → (i : ℕ) × (s.offer.writing ≡ Some i)
+    go None e h = absurd (true≢false h)
+    go (Some i) e h = (i, e)
 
 pub record FetchTaken (s : State) (g : Given) : Type 0 where
   pub outside : s.front.in_cycle ≡ false
@@ -53,7 +54,7 @@ pub record FetchTaken (s : State) (g : Given) : Type 0 where
   pub writes : length g.info.writes ≤ 4
   pub number : eqb s.front.next_seq max64 ≡ false
 
-pub fetch-taken : (s : State) (g : Given) (ml : ℕ) → refusal s (fetch g ml) ≡ none → FetchTaken s g
+pub fetch-taken : (s : State) (g : Given) (ml : ℕ) → refusal s (fetch g ml) ≡ None → FetchTaken s g
 unfolding calls
 fetch-taken s g ml p =
     let t = taken-checks s (fetch g ml) p in
@@ -70,11 +71,11 @@ fetch-taken s g ml p =
 -- The texts of an operation whose info is taken.
 pub info-texts
     : (i : Info) → bad_info i ≡ false
-    → (bad_text 64 i.disassembly ≡ false) × (any (bad_text 16) (take 8 i.sources) ≡ false) × (any (bad_text 16) (take 4 i.writes) ≡ false)
+    → (bad_text 64 i.disassembly ≡ false) × (list_any (bad_text 16) (take 8 i.sources) ≡ false) × (list_any (bad_text 16) (take 4 i.writes) ≡ false)
 unfolding calls
 info-texts i h =
     five (bad_text 64 i.disassembly) (when_some i.fault false (bad_text 64)) (when_some i.destination false (bad_text 16))
-    (any (bad_text 16) (take 8 i.sources)) (any (bad_text 16) (take 4 i.writes)) h
+    (list_any (bad_text 16) (take 8 i.sources)) (list_any (bad_text 16) (take 4 i.writes)) h
   where
     five : (a b c d e : Bool) → (a || b || c || d || e) ≡ false → (a ≡ false) × (d ≡ false) × (e ≡ false)
     five true b c d e h = absurd (true≢false h)
@@ -88,7 +89,7 @@ pub next-number : (n : ℕ) → n ≤ max64 → eqb n max64 ≡ false → satura
 next-number n h e = let k = eqb-false n max64 e in omega arith
 
 pub capacity-taken
-    : (s : State) (k n : ℕ) → refusal s (capacity k n) ≡ none → (s.front.in_cycle ≡ false) × (capacities (with_noted k n s) ≤ 64)
+    : (s : State) (k n : ℕ) → refusal s (capacity k n) ≡ None → (s.front.in_cycle ≡ false) × (capacities (with_noted k n s) ≤ 64)
 unfolding calls
 capacity-taken s k n p =
     let t = taken-checks s (capacity k n) p in (t.0, ltb-false 64 (capacities (with_noted k n s)) t.1.1.0)
@@ -101,7 +102,7 @@ pub record MakeTaken (d : PipelineShape) : Type 0 where
   pub names : All (λ (k : UnitSpec). bad_spec_name k ≡ false) d.units
   pub times : extra_overflows d.times ≡ false
 
-pub make-taken : (d : PipelineShape) (lent : ℕ) → make_refusal d lent ≡ none → MakeTaken d
+pub make-taken : (d : PipelineShape) (lent : ℕ) → make_refusal d lent ≡ None → MakeTaken d
 unfolding calls
 make-taken d lent p =
     let c = none-holds (make_checks d lent) p in

@@ -3,10 +3,11 @@ use Prim.Native.Nat.{ℕ, zero, suc, ◌+◌, ◌≤◌, ◌<◌}
 use native.Mathlib.Omega.{arith}
 use mathlib.Core.Path.{◌≡◌, sym, ◌∙◌, ap, subst}
 use mathlib.Core.Bool.{Bool, true, false, cond}
-use mathlib.Core.Option.{Option, none, some}
+use Rattle.std.specs.Prelude.{Option, None, Some}
 use mathlib.Core.List.{List, [], ◌∷◌, map}
 use lib.ListN.{length}
-use Rattle.laws.specs.Lists.{All, modify, any}
+use Rattle.laws.specs.Lists.{All, modify}
+use Rattle.std.specs.List.{list_any}
 use Rattle.model.specs.Config.{UnitSpec, config, capacities, Machine, with_capacity}
 use Rattle.model.specs.Issue.{complete_offer, free_unit, issue, issue_choose, issue_front, issue_to, issuing, learn, taken, waits_on}
 use Rattle.model.specs.Op.{Op}
@@ -63,61 +64,61 @@ module _ (k n : ℕ) where
   locals-marked w (b ∷ bs) us h =
       locals-marked w bs (modify b.0 (mark_hazard (blocked_kind b.1)) us)
       (every-modify (Local k n w) (Local k n w) _ b.0 (λ i u m x. x)
-      (λ u x. local-hazard k n w b.0 u (some (blocked_kind b.1)) x) us h)
+      (λ u x. local-hazard k n w b.0 u (Some (blocked_kind b.1)) x) us h)
 
-  pub locals-out : (f : Option ℕ) (us : List FunctionalUnit) → Locals k n none us → Locals k n f (take_out f us)
+  pub locals-out : (f : Option ℕ) (us : List FunctionalUnit) → Locals k n None us → Locals k n f (take_out f us)
   unfolding writing
-  locals-out none us h = h
-  locals-out (some i) us h =
-      every-modify (Local k n none) (Local k n (some i)) (with_busy false) i (local-out-other k n i) (local_out k n i) us h
+  locals-out None us h = h
+  locals-out (Some i) us h =
+      every-modify (Local k n None) (Local k n (Some i)) (with_busy false) i (local-out-other k n i) (local_out k n i) us h
 
-  pub locals-back : (w : Option ℕ) (us : List FunctionalUnit) → Locals k n w us → Locals k n none (put_back w us)
+  pub locals-back : (w : Option ℕ) (us : List FunctionalUnit) → Locals k n w us → Locals k n None (put_back w us)
   unfolding writing
-  locals-back none us h = h
-  locals-back (some i) us h =
-      every-modify (Local k n (some i)) (Local k n none) (with_busy true) i (local-back-other k n i) (local_back k n i) us h
+  locals-back None us h = h
+  locals-back (Some i) us h =
+      every-modify (Local k n (Some i)) (Local k n None) (with_busy true) i (local-back-other k n i) (local_back k n i) us h
 
-  pub locals-cleared : (w : Option ℕ) (us : List FunctionalUnit) → Locals k n w us → Locals k n none (map clear us)
-  locals-cleared w us h = every_map (Local k n w) (Local k n none) clear (local-clear k n w none) us h
+  pub locals-cleared : (w : Option ℕ) (us : List FunctionalUnit) → Locals k n w us → Locals k n None (map clear us)
+  locals-cleared w us h = every_map (Local k n w) (Local k n None) clear (local-clear k n w None) us h
 
   -- ── An advance ──────────────────────────────────────────────────────────────
 
-  pub locals-closed : (w : Option ℕ) (s : State) → Locals k n w s.units → Locals k n none (complete_offer w s).units
+  pub locals-closed : (w : Option ℕ) (s : State) → Locals k n w s.units → Locals k n None (complete_offer w s).units
   unfolding issuing
-  locals-closed none s h = h
-  locals-closed (some i) s h =
-      every_map (Local k n none) (Local k n none) (without_waits i) (local-unwait k n none i) (modify i clear s.units)
-      (every-modify (Local k n (some i)) (Local k n none) clear i (local-back-other k n i) (local-clear k n (some i) none i) s.units h)
+  locals-closed None s h = h
+  locals-closed (Some i) s h =
+      every_map (Local k n None) (Local k n None) (without_waits i) (local-unwait k n None i) (modify i clear s.units)
+      (every-modify (Local k n (Some i)) (Local k n None) clear i (local-back-other k n i) (local-clear k n (Some i) None i) s.units h)
 
-  pub locals-before : (r : Option ℕ) (s : State) → Locals k n none s.units → Locals k n none (before_issue r s).units
+  pub locals-before : (r : Option ℕ) (s : State) → Locals k n None s.units → Locals k n None (before_issue r s).units
   unfolding scoreboard issuing
   locals-before r s h = go r
     where
-      three : Locals k n none (map read_one (map begin (map tick s.units)))
+      three : Locals k n None (map read_one (map begin (map tick s.units)))
       three =
-          every_map (Local k n none) (Local k n none) read_one (local-read k n none) (map begin (map tick s.units))
-          (every_map (Local k n none) (Local k n none) begin (local-begin k n none) (map tick s.units)
-          (every_map (Local k n none) (Local k n none) tick (local-tick k n none) s.units h))
+          every_map (Local k n None) (Local k n None) read_one (local-read k n None) (map begin (map tick s.units))
+          (every_map (Local k n None) (Local k n None) begin (local-begin k n None) (map tick s.units)
+          (every_map (Local k n None) (Local k n None) tick (local-tick k n None) s.units h))
 
-      go : (r : Option ℕ) → Locals k n none (before_issue r s).units
-      go none = three
-      go (some m) = three
+      go : (r : Option ℕ) → Locals k n None (before_issue r s).units
+      go None = three
+      go (Some m) = three
 
 -- The units of s, none of them on offer.
 abbrev LocalsOf : State → Type 0
-LocalsOf s = Locals (length s.machine.specs) (length s.names) none s.units
+LocalsOf s = Locals (length s.machine.specs) (length s.names) None s.units
 
 locals-to
     : (o : Op) (rest : List Op) (r w : List ℕ) (t f : Option ℕ) (s : State) → OperationFits o → length r ≤ 8 → length w ≤ 4
     → All (λ (x : ℕ). x < length s.names) r → All (λ (x : ℕ). x < length s.names) w → LocalsOf s
     → LocalsOf (issue_to o rest r w t f s)
 unfolding issuing
-locals-to o rest r w (some x) f s e r8 w4 rk wk h = h
-locals-to o rest r w none none s e r8 w4 rk wk h = h
-locals-to o rest r w none (some i) s e r8 w4 rk wk h =
+locals-to o rest r w (Some x) f s e r8 w4 rk wk h = h
+locals-to o rest r w None None s e r8 w4 rk wk h = h
+locals-to o rest r w None (Some i) s e r8 w4 rk wk h =
     let k = length s.machine.specs in
     let n = length s.names in
-    every-modify (Local k n none) (Local k n none) (occupy o r w (waits_on s.producer r)) i (λ j u m x. x)
+    every-modify (Local k n None) (Local k n None) (occupy o r w (waits_on s.producer r)) i (λ j u m x. x)
     (λ u x.
     local-occupy k n i u o r w (waits_on s.producer r) e r8 w4 (omega (arith, r8, waits-length s.producer r)) rk wk x)
     s.units h
@@ -137,7 +138,7 @@ locals-choose false false o rest s e h =
     (omega (arith, at_length x.names o.info.writes x.written ws, e.writes_few))
     (at-known x.names o.info.sources x.read rs) (at-known x.names o.info.writes x.written ws)
     (λ i u q.
-    local-more (length s.machine.specs) (length s.names) (length x.names) (resolve-longer s.names o.info) none i u (h i u q))
+    local-more (length s.machine.specs) (length s.names) (length x.names) (resolve-longer s.names o.info) None i u (h i u q))
 
 locals-issue : (s : State) → All OperationFits s.queue → LocalsOf s → LocalsOf (issue s)
 unfolding issuing
@@ -156,15 +157,15 @@ locals-as : (k k' n n' : ℕ) (w : Option ℕ) (us : List FunctionalUnit) → k 
 locals-as k k' n n' w us p q h =
     subst (λ (x : ℕ). Locals x n' w us) p (subst (λ (x : ℕ). Locals k x w us) q h)
 
-locals-unoffered : (s : State) → s.offer.writing ≡ none → LocalsOf s → LocalsIn s
+locals-unoffered : (s : State) → s.offer.writing ≡ None → LocalsOf s → LocalsIn s
 locals-unoffered s e h = subst (λ (w : Option ℕ). Locals (length s.machine.specs) (length s.names) w s.units) (sym e) h
 
 -- The machine and the names are as they were.
 locals-step
-    : (s t : State) → Step s t → t.names ≡ s.names → Locals (length s.machine.specs) (length s.names) none t.units
+    : (s t : State) → Step s t → t.names ≡ s.names → Locals (length s.machine.specs) (length s.names) None t.units
     → LocalsOf t
 locals-step s t m e h =
-    locals-as (length s.machine.specs) (length t.machine.specs) (length s.names) (length t.names) none t.units
+    locals-as (length s.machine.specs) (length t.machine.specs) (length s.names) (length t.names) None t.units
     (ap (λ (x : Machine). length x.specs) (sym m.machine)) (ap length (sym e)) h
 
 locals-advance : (r : Option ℕ) (s : State) → All OperationFits s.queue → Front s → LocalsIn s → LocalsIn (advance r s)
@@ -192,8 +193,8 @@ locals-advance r s a f h = go (stops s)
 locals-capacity : (k m : ℕ) (s : State) → capacities (with_noted k m s) ≤ 64 → LocalsIn s → LocalsIn (set_capacity k m s)
 unfolding scoreboard
 locals-capacity k m s c h =
-    subst (λ (x : ℕ). Locals x (length s.names) s.offer.writing (rebuilt (any is_busy s.units) (with_noted k m s) s.units)) (sym e)
-    (go (any is_busy s.units))
+    subst (λ (x : ℕ). Locals x (length s.names) s.offer.writing (rebuilt (list_any is_busy s.units) (with_noted k m s) s.units)) (sym e)
+    (go (list_any is_busy s.units))
   where
     e : length (modify k (with_capacity m) s.machine.specs) ≡ length s.machine.specs
     e = length-modify (with_capacity m) k s.machine.specs
@@ -206,18 +207,18 @@ locals-capacity k m s c h =
         locals-built (length s.machine.specs) (length s.names) s.offer.writing (with_noted k m s)
         (omega (arith, length-modify (with_capacity m) k s.machine.specs)) c
 
-pub locals-run : (s : State) (c : Call) → refusal s c ≡ none → Flight s → Sizes s → Front s → LocalsIn s → LocalsIn (run s c)
+pub locals-run : (s : State) (c : Call) → refusal s c ≡ None → Flight s → Sizes s → Front s → LocalsIn s → LocalsIn (run s c)
 unfolding calls writing units scoreboard
 locals-run s start p f z v h =
     let k = length s.machine.specs in
     let n = length s.names in
     let us = map clear_hazard s.units in
     let t = writable_unit us in
-    let l : Locals k n none s.units
+    let l : Locals k n None s.units
     = subst (λ (w : Option ℕ). Locals k n w s.units) (no-cycle s f (start_outside s p)) h in
     locals-out k n t.found (mark_blocked t.turned_away us)
-    (locals-marked k n none t.turned_away us
-    (every_map (Local k n none) (Local k n none) clear_hazard (λ i u x. local-hazard k n none i u none x) s.units l))
+    (locals-marked k n None t.turned_away us
+    (every_map (Local k n None) (Local k n None) clear_hazard (λ i u x. local-hazard k n None i u None x) s.units l))
 locals-run s retire p f z v h = h
 locals-run s (retry x) p f z v h = locals-back (length s.machine.specs) (length s.names) s.offer.writing s.units h
 locals-run s (resolve-call a) p f z v h = h
@@ -227,8 +228,8 @@ locals-run s (capacity k m) p f z v h = locals-capacity k m s (capacity-taken s 
 locals-run s (overlap b) p f z v h = h
 locals-run s halt p f z v h = locals-cleared (length s.machine.specs) (length s.names) s.offer.writing s.units h
 locals-run s (fault x) p f z v h = locals-cleared (length s.machine.specs) (length s.names) s.offer.writing s.units h
-locals-run s (reset a ml) p f z v h = locals-built (length s.machine.specs) 0 none s.machine.specs (omega arith) z.kinds.sum_few
-locals-run s (redirect a) p f z v h = locals-built (length s.machine.specs) 0 none s.machine.specs (omega arith) z.kinds.sum_few
+locals-run s (reset a ml) p f z v h = locals-built (length s.machine.specs) 0 None s.machine.specs (omega arith) z.kinds.sum_few
+locals-run s (redirect a) p f z v h = locals-built (length s.machine.specs) 0 None s.machine.specs (omega arith) z.kinds.sum_few
 locals-run s (view x) p f z v h = h
 locals-run s (text t m) p f z v h = h
 locals-run s (cell i j ml) p f z v h = h

@@ -3,13 +3,12 @@ use Prim.Native.Nat.{ℕ, suc, ◌-◌, ◌≤◌, ◌<◌}
 use native.Mathlib.Omega.{arith}
 use mathlib.Core.Path.{◌≡◌, refl, sym, ◌∙◌, ap, subst}
 use mathlib.Core.Bool.{Bool, true, false, cond, not, ◌&&◌, ◌||◌, true≢false}
-use mathlib.Core.Option.{Option, none, some}
+use Rattle.std.specs.Prelude.{Option, None, Some, slice_get, option_map}
 use mathlib.Core.List.{List, [], ◌∷◌, map}
 use lib.Dec.{eqb}
 use lib.ListN.{length}
 use borrow.Author.Tests.{eqb-true, eqb-false, ne_eqb}
-use Rattle.laws.specs.Lists.{lists, All, is_empty, keep, modify, nth}
-use Rattle.laws.specs.Optional.{omap}
+use Rattle.laws.specs.Lists.{lists, All, is_empty, keep, modify}
 use Rattle.laws.proofs.Choices.{none-some, some_inj}
 use Rattle.laws.proofs.Maps.{nth-map}
 use Rattle.capability.specs.Numbers.{numbers, phase_number}
@@ -29,32 +28,32 @@ use Rattle.invariant.proofs.Entries.{offered-self}
 -- ── A fact of each unit, by its place ───────────────────────────────────────
 
 abbrev pub Every : (ℕ → FunctionalUnit → Type 0) → List FunctionalUnit → Type 0
-Every P us = (i : ℕ) (u : FunctionalUnit) → nth us i ≡ some u → P i u
+Every P us = (i : ℕ) (u : FunctionalUnit) → slice_get us i ≡ Some u → P i u
 
 module _ (P Q : ℕ → FunctionalUnit → Type 0) where
   pub every_map
       : (f : FunctionalUnit → FunctionalUnit) → ((i : ℕ) (u : FunctionalUnit) → P i u → Q i (f u)) → (us : List FunctionalUnit) → Every P us
       → Every Q (map f us)
-  every_map f r us h i u e = go (nth us i) refl (sym (nth-map f us i) ∙ e)
+  every_map f r us h i u e = go (slice_get us i) refl (sym (nth-map f us i) ∙ e)
     where
-      go : (o : Option FunctionalUnit) → nth us i ≡ o → omap f o ≡ some u → Q i u
-      go none k q = none-some u q
-      go (some v) k q = subst (Q i) (some_inj (f v) u q) (r i v (h i v k))
+      go : (o : Option FunctionalUnit) → slice_get us i ≡ o → option_map f o ≡ Some u → Q i u
+      go None k q = none-some u q
+      go (Some v) k q = subst (Q i) (some_inj (f v) u q) (r i v (h i v k))
 
   pub every-modify
       : (f : FunctionalUnit → FunctionalUnit) (m : ℕ) → ((i : ℕ) (u : FunctionalUnit) → (i ≡ m → ⊥) → P i u → Q i u)
       → ((u : FunctionalUnit) → P m u → Q m (f u)) → (us : List FunctionalUnit) → Every P us → Every Q (modify m f us)
   every-modify f m away here us h i u e = at (eqb i m) refl
     where
-      go : (o : Option FunctionalUnit) → nth us m ≡ o → omap f o ≡ some u → Q m u
-      go none k q = none-some u q
-      go (some v) k q = subst (Q m) (some_inj (f v) u q) (here v (h m v k))
+      go : (o : Option FunctionalUnit) → slice_get us m ≡ o → option_map f o ≡ Some u → Q m u
+      go None k q = none-some u q
+      go (Some v) k q = subst (Q m) (some_inj (f v) u q) (here v (h m v k))
 
       at : (b : Bool) → eqb i m ≡ b → Q i u
       at true t =
           let z = eqb-true i m t in
           subst (λ (x : ℕ). Q x u) (sym z)
-          (go (nth us m) refl (sym (nth-same f us m) ∙ ap (nth (modify m f us)) (sym z) ∙ e))
+          (go (slice_get us m) refl (sym (nth-same f us m) ∙ ap (slice_get (modify m f us)) (sym z) ∙ e))
       at false t = let n = eqb-false i m t in away i u n (h i u (sym (nth-other f us m i n) ∙ e))
 
 pub all-every : (P : FunctionalUnit → Type 0) (us : List FunctionalUnit) → Every (λ (i : ℕ) (u : FunctionalUnit). P u) us → All P us
@@ -173,7 +172,7 @@ module _ (k n : ℕ) where
   pub local-read : (w : Option ℕ) (i : ℕ) (u : FunctionalUnit) → Local k n w i u → Local k n w i (read_one u)
   unfolding units
   local-read w i u h =
-      local-progress w i (with_hazard (cond (waits u) (some ReadAfterWrite) u.op.core.hazard) u.op)
+      local-progress w i (with_hazard (cond (waits u) (Some ReadAfterWrite) u.op.core.hazard) u.op)
       (cond (in_phase Wait u && is_empty u.pending) Read u.phase) u refl (fits-hazard _ u.op h.fits.operation_fits)
       (λ e.
       ap (λ (b : Bool). cond (in_phase Wait u && b) Read u.phase) e
@@ -223,18 +222,18 @@ module _ (k n : ℕ) where
         waits_early = h.waits_early;
       }
 
-  pub local_out : (i : ℕ) (u : FunctionalUnit) → Local k n none i u → Local k n (some i) i (with_busy false u)
+  pub local_out : (i : ℕ) (u : FunctionalUnit) → Local k n None i u → Local k n (Some i) i (with_busy false u)
   local_out i u h =
       record { blank = λ e. absurd (true≢false (sym (offered-self i (with_busy false u)) ∙ e)); fits = fits-busy false u h.fits }
 
-  pub local-out-other : (i j : ℕ) (u : FunctionalUnit) → (j ≡ i → ⊥) → Local k n none j u → Local k n (some i) j u
+  pub local-out-other : (i j : ℕ) (u : FunctionalUnit) → (j ≡ i → ⊥) → Local k n None j u → Local k n (Some i) j u
   local-out-other i j u m h =
       record { blank = λ e. h.blank (or-false u.busy ∙ (or-neither u.busy (eqb j i) e).0); fits = h.fits }
 
-  pub local_back : (i : ℕ) (u : FunctionalUnit) → Local k n (some i) i u → Local k n none i (with_busy true u)
+  pub local_back : (i : ℕ) (u : FunctionalUnit) → Local k n (Some i) i u → Local k n None i (with_busy true u)
   local_back i u h = record { blank = λ e. absurd (true≢false e); fits = fits-busy true u h.fits }
 
-  pub local-back-other : (i j : ℕ) (u : FunctionalUnit) → (j ≡ i → ⊥) → Local k n (some i) j u → Local k n none j u
+  pub local-back-other : (i j : ℕ) (u : FunctionalUnit) → (j ≡ i → ⊥) → Local k n (Some i) j u → Local k n None j u
   local-back-other i j u m h =
       record { blank = λ e. h.blank (ap (λ (b : Bool). u.busy || b) (ne_eqb j i m) ∙ e); fits = h.fits }
 
@@ -269,7 +268,7 @@ module _ (k n : ℕ) where
   -- It is given an operation, with the numbers of its registers.
   pub local-occupy
       : (i : ℕ) (u : FunctionalUnit) (o : Op) (r w : List ℕ) (p : List (ℕ × ℕ)) → OperationFits o → length r ≤ 8 → length w ≤ 4
-      → length p ≤ 8 → All (λ (x : ℕ). x < n) r → All (λ (x : ℕ). x < n) w → Local k n none i u → Local k n none i (occupy o r w p u)
+      → length p ≤ 8 → All (λ (x : ℕ). x < n) r → All (λ (x : ℕ). x < n) w → Local k n None i u → Local k n None i (occupy o r w p u)
   unfolding units
   local-occupy i u o r w p f r8 w4 p8 rk wk h =
       record {

@@ -1,7 +1,6 @@
 -- What holds of every engine that is made, after any list of calls, resets included: one record, each part by its own name.
-use Rattle.std.specs.Prelude.{ℕ, suc, ◌≤◌, ◌<◌, ◌≡◌, Bool, true, false, ◌||◌, List, [], ◌∷◌, map, ◌⊎◌, ◌↔◌, eqb, length}
-use Rattle.std.proofs.Math.Option.{Option, none, some}
-use Rattle.laws.specs.Lists.{All, nth, is_empty}
+use Rattle.std.specs.Prelude.{ℕ, suc, ◌≤◌, ◌<◌, ◌≡◌, Bool, true, false, ◌||◌, List, [], ◌∷◌, map, ◌⊎◌, ◌↔◌, eqb, length, Option, None, Some, slice_get}
+use Rattle.laws.specs.Lists.{All, is_empty}
 use Rattle.laws.specs.Numbers.{max64}
 use Rattle.laws.specs.Texts.{Text}
 use Rattle.capability.specs.declared.Phase.TheVariants.{Wait, Write}
@@ -23,8 +22,8 @@ In a (x ∷ xs) = (a ≡ x) ⊎ In a xs
 
 -- Unit i is the one whose result is on offer.
 abbrev pub offered : Option ℕ → ℕ → Bool
-offered none i = false
-offered (some j) i = eqb i j
+offered None i = false
+offered (Some j) i = eqb i j
 
 -- The operation of unit i is in flight: the unit is busy, or its result is on offer.
 abbrev pub occupied : Option ℕ → ℕ → FunctionalUnit → Bool
@@ -32,7 +31,7 @@ occupied w i u = u.busy || offered w i
 
 -- Unit i is u, and its operation is in flight.
 pub record Holds (s : State) (i : ℕ) (u : FunctionalUnit) : Type 0 where
-  pub there : nth s.units i ≡ some u
+  pub there : slice_get s.units i ≡ Some u
   pub in_flight : occupied s.offer.writing i u ≡ true
 
 -- The lists of a unit that holds none are empty.
@@ -43,7 +42,7 @@ pub record Blank (u : FunctionalUnit) : Type 0 where
 
 -- The unit of an offer: it is not busy, and in phase Write.
 abbrev pub OnOffer : List FunctionalUnit → ℕ → Type 0
-OnOffer us i = (u : FunctionalUnit) × (nth us i ≡ some u) × (u.busy ≡ false) × (u.phase ≡ Write)
+OnOffer us i = (u : FunctionalUnit) × (slice_get us i ≡ Some u) × (u.busy ≡ false) × (u.phase ≡ Write)
 
 -- The number of the oldest queued operation, or else the next number.
 abbrev pub front_number : List Op → ℕ → ℕ
@@ -148,16 +147,16 @@ pub record Invariant (s : State) : Type 0 where
   pub units_few : length s.units ≤ 64
   pub units_built : (ks : List UnitSpec) × Built s ks
   pub kind_has_unit
-      : (k : ℕ) → k < length s.machine.specs → (i : ℕ) × (u : FunctionalUnit) × (nth s.units i ≡ some u) × (u.spec ≡ k)
+      : (k : ℕ) → k < length s.machine.specs → (i : ℕ) × (u : FunctionalUnit) × (slice_get s.units i ≡ Some u) × (u.spec ≡ k)
   -- Each unit's kind is one of the machine's; its lists have at most 8 sources, 4 destinations and 8 waits, of registers known.
   pub units_fit : All (UnitFits (length s.machine.specs) (length s.names)) s.units
   -- A unit that is free, its result not on offer, has empty lists.
   pub free_blank
-      : (i : ℕ) (u : FunctionalUnit) → nth s.units i ≡ some u → occupied s.offer.writing i u ≡ false → Blank u
+      : (i : ℕ) (u : FunctionalUnit) → slice_get s.units i ≡ Some u → occupied s.offer.writing i u ≡ false → Blank u
   -- Names: at most 256, also with those of queued operations, and no two the same; a register for each. Each is a text of at most 16 bytes.
   pub names_few : length s.names ≤ 256
   pub names_with_queue : length (intern_all s.names (names_in s.queue)).names ≤ 256
-  pub names_distinct : (j k : ℕ) (a : Text) → nth s.names j ≡ some a → nth s.names k ≡ some a → j ≡ k
+  pub names_distinct : (j k : ℕ) (a : Text) → slice_get s.names j ≡ Some a → slice_get s.names k ≡ Some a → j ≡ k
   pub names_fit : All (λ (a : Text). bad_text 16 a ≡ false) s.names
   pub producer_long : length s.producer ≡ length s.names
   -- The queue is within its depth; each operation has at most 8 sources and 4 writes, and its row is its number.
@@ -174,18 +173,18 @@ pub record Invariant (s : State) : Type 0 where
   pub next_row_is_number : s.front.next_row ≡ s.front.next_seq
   -- Claims: a register is claimed by unit i exactly where unit i, in flight, has it as a destination.
   pub claimed
-      : (i : ℕ) (u : FunctionalUnit) (r : ℕ) → Holds s i u → In r u.destinations → producer_of s.producer r ≡ some i
+      : (i : ℕ) (u : FunctionalUnit) (r : ℕ) → Holds s i u → In r u.destinations → producer_of s.producer r ≡ Some i
   pub claimant
-      : (r i : ℕ) → producer_of s.producer r ≡ some i → (u : FunctionalUnit) × Holds s i u × In r u.destinations
+      : (r i : ℕ) → producer_of s.producer r ≡ Some i → (u : FunctionalUnit) × Holds s i u × In r u.destinations
   -- RAW: a unit waits for a source only in phase Wait, and only for an older unit in flight that claims it.
   pub waits
       : (i : ℕ) (u : FunctionalUnit) (r k : ℕ) → Holds s i u → In {A = ℕ × ℕ} (r, k) u.pending
-      → In r u.sources × (producer_of s.producer r ≡ some k)
+      → In r u.sources × (producer_of s.producer r ≡ Some k)
       × ((v : FunctionalUnit) × Holds s k v × v.op.core.seq < u.op.core.seq) × (u.phase ≡ Wait)
   -- WAR: a unit that reads a register and does not wait for it is older than another that claims it.
   pub unwaiting_older
       : (i : ℕ) (u : FunctionalUnit) (r k : ℕ) → Holds s i u → In r u.sources
-      → ((m : ℕ) → In {A = ℕ × ℕ} (r, m) u.pending → ⊥) → producer_of s.producer r ≡ some k
+      → ((m : ℕ) → In {A = ℕ × ℕ} (r, m) u.pending → ⊥) → producer_of s.producer r ≡ Some k
       → (k ≡ i) ⊎ ((v : FunctionalUnit) × Holds s k v × u.op.core.seq < v.op.core.seq)
   -- A mark stands exactly while a branch, or a system operation, is in flight; nothing in a unit is then younger.
   pub branch_mark : (s.marks.branch ≡ true) ↔ ((i : ℕ) × (u : FunctionalUnit) × Holds s i u × (u.redirects ≡ true))
@@ -205,10 +204,10 @@ pub record Invariant (s : State) : Type 0 where
   pub traces_few : length s.log.traces ≤ 130
   pub traces_open : s.front.in_cycle ≡ true → length s.log.traces ≤ 64
   -- The status text, if there is one, has at most 64 bytes.
-  pub status_fits : (t : Text) → s.log.status ≡ some t → bad_text 64 t ≡ false
+  pub status_fits : (t : Text) → s.log.status ≡ Some t → bad_text 64 t ≡ false
   -- A result is on offer only in a cycle; its unit is not busy, and in phase Write. Only an offer is marked as retired.
-  pub offer_unit : (i : ℕ) → s.offer.writing ≡ some i → (s.front.in_cycle ≡ true) × OnOffer s.units i
-  pub retired_offer : s.offer.retired ≡ true → (i : ℕ) × (s.offer.writing ≡ some i)
+  pub offer_unit : (i : ℕ) → s.offer.writing ≡ Some i → (s.front.in_cycle ≡ true) × OnOffer s.units i
+  pub retired_offer : s.offer.retired ≡ true → (i : ℕ) × (s.offer.writing ≡ Some i)
   -- An invitation to fetch stands only between cycles, while not halted or faulted, and where the queue has room.
   pub invited_outside : s.front.invited ≡ true → s.front.in_cycle ≡ false
   pub invited_running : s.front.invited ≡ true → stops s ≡ false
@@ -216,5 +215,5 @@ pub record Invariant (s : State) : Type 0 where
   -- Halted or faulted: nothing is queued, in a unit or on offer, and no register is claimed.
   pub stopped_queue : stops s ≡ true → s.queue ≡ []
   pub stopped_units : stops s ≡ true → (i : ℕ) (u : FunctionalUnit) → Holds s i u → ⊥
-  pub stopped_offer : stops s ≡ true → s.offer.writing ≡ none
-  pub stopped_claims : stops s ≡ true → (r : ℕ) → producer_of s.producer r ≡ none
+  pub stopped_offer : stops s ≡ true → s.offer.writing ≡ None
+  pub stopped_claims : stops s ≡ true → (r : ℕ) → producer_of s.producer r ≡ None

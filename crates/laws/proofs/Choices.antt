@@ -1,7 +1,7 @@
 -- Tests and choices: what follows from a test that holds, and from which branch a choice took.
 use mathlib.Core.Path.{◌≡◌, refl, subst}
 use mathlib.Core.Bool.{Bool, true, false, cond, ◌&&◌}
-use mathlib.Core.Option.{Option, none, some}
+use Rattle.std.specs.Prelude.{Option, None, Some}
 use lib.Dec.{T}
 
 pub and_left : (a b : Bool) → T (a && b) → T a
@@ -31,11 +31,11 @@ either P true x y f g = f tt
 either P false x y f g = g refl
 
 abbrev IsNoneType : {A : Type 0} → Option A → Type 0
-IsNoneType none = Unit {0}
-IsNoneType (some a) = ⊥
+IsNoneType None = Unit {0}
+IsNoneType (Some a) = ⊥
 
-pub none-some : {A : Type 0} {B : Type 0} (a : A) → none ≡ some a → B
+pub none-some : {A : Type 0} {B : Type 0} (a : A) → None ≡ Some a → B
 none-some a p = absurd (subst IsNoneType p tt)
 
-pub some_inj : {A : Type 0} (a b : A) → some a ≡ some b → a ≡ b
+pub some_inj : {A : Type 0} (a b : A) → Some a ≡ Some b → a ≡ b
 some_inj a b p = cc

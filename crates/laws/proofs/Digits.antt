@@ -1,6 +1,6 @@
 -- The loop that writes the digits of a number from the last to the first, and what digits denote: the number, in every base of 2 to 16.
 use mathlib.Core.Path.{◌≡◌, refl, sym, ap, ◌∙◌}
-use mathlib.Core.Option.{some}
+use Rattle.std.specs.Prelude.{Some}
 use mathlib.Core.List.{[], ◌∷◌}
 use mathlib.Core.Logic.{⊎_elim}
 use Prim.Native.Nat.{ℕ, zero, suc, ◌+◌, ◌-◌, ◌*◌, ◌/◌, ◌%◌, ◌^◌, ◌≤◌, ◌<◌}
@@ -92,11 +92,11 @@ module _ {base : ℕ} (pos : 1 < base) where
   digits-zero fuel tail = let z : 0 < base = omega arith in digits-end fuel tail z ∙ ap (λ d. digit d ∷ tail) (zero-mod base)
 
   -- No leading zero: the first digit is '0' of 0 alone.
-  pub leading-zero : (fuel n : ℕ) (tail : Text) → n < base ^ suc fuel → head (digits_before base fuel n tail) ≡ some 48 → n ≡ 0
+  pub leading-zero : (fuel n : ℕ) (tail : Text) → n < base ^ suc fuel → head (digits_before base fuel n tail) ≡ Some 48 → n ≡ 0
   unfolding head
   leading-zero =
       digits-by
-      (λ fuel n tail out. head out ≡ some 48 → n ≡ 0)
+      (λ fuel n tail out. head out ≡ Some 48 → n ≡ 0)
       (λ fuel n tail h e. sym (mod-eq_of_lt h) ∙ digit-zero (n % base) (let z : digit (n % base) ≡ 48 = cc in z))
       (λ fuel n tail out h q e.
       let z : 0 < base = omega arith in

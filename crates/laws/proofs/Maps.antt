@@ -2,11 +2,12 @@
 use Prim.Native.Nat.{ℕ, zero, suc, ◌+◌}
 use mathlib.Core.Path.{◌≡◌, refl, sym, ◌∙◌, ap, ap₂}
 use mathlib.Core.Bool.{Bool, true, false, cond, ◌||◌}
-use mathlib.Core.Option.{none, some}
+use Rattle.std.specs.Prelude.{None, Some, slice_get, option_map}
 use mathlib.Core.List.{List, [], ◌∷◌, ◌++◌, map}
 use lib.ListN.{length, drop}
-use Rattle.laws.specs.Lists.{any, any_at, count, find_at, is_empty, keep, modify, nth}
-use Rattle.laws.specs.Optional.{omap, or_else}
+use Rattle.laws.specs.Lists.{any_at, count, find_at, is_empty, keep, modify}
+use Rattle.std.specs.List.{list_any}
+use Rattle.std.specs.Option.{option_or}
 
 module _ {A B : Type 0} (e : A → B) where
   pub map-append : (xs ys : List A) → map e (xs ++ ys) ≡ map e xs ++ map e ys
@@ -22,8 +23,7 @@ module _ {A B : Type 0} (e : A → B) where
   map-drop (suc n) [] = refl
   map-drop (suc n) (x ∷ xs) = map-drop n xs
 
-  pub nth-map : (xs : List A) (n : ℕ) → nth (map e xs) n ≡ omap e (nth xs n)
-  unfolding nth
+  pub nth-map : (xs : List A) (n : ℕ) → slice_get (map e xs) n ≡ option_map e (slice_get xs n)
   nth-map [] n = refl
   nth-map (x ∷ xs) zero = refl
   nth-map (x ∷ xs) (suc n) = nth-map xs n
@@ -34,8 +34,7 @@ module _ {A B : Type 0} (e : A → B) where
   empty-map (x ∷ xs) = refl
 
   module _ (p : A → Bool) (q : B → Bool) (pq : (x : A) → q (e x) ≡ p x) where
-    pub any-map : (xs : List A) → any q (map e xs) ≡ any p xs
-    unfolding any
+    pub any-map : (xs : List A) → list_any q (map e xs) ≡ list_any p xs
     any-map [] = refl
     any-map (x ∷ xs) = ap₂ ◌||◌ (pq x) (any-map xs)
 
@@ -57,7 +56,7 @@ module _ {A B : Type 0} (e : A → B) where
     pub find-map : (i : ℕ) (xs : List A) → find_at q i (map e xs) ≡ find_at p i xs
     unfolding find_at
     find-map i [] = refl
-    find-map i (x ∷ xs) = ap₂ or_else (ap (λ (b : Bool). cond b (some i) none) (pq i x)) (find-map (suc i) xs)
+    find-map i (x ∷ xs) = ap₂ option_or (ap (λ (b : Bool). cond b (Some i) None) (pq i x)) (find-map (suc i) xs)
 
     pub any-at-map : (i : ℕ) (xs : List A) → any_at q i (map e xs) ≡ any_at p i xs
     unfolding any_at

@@ -1,7 +1,7 @@
 -- The loop that searches or folds: what is left gives what the whole gives. A law for any fold, and what each fold of specs/Lists does at an element.
 use mathlib.Core.Path.{◌≡◌, refl, sym, ap, ap₂, ◌∙◌}
 use mathlib.Core.Bool.{Bool, true, false, cond, ◌||◌, ◌&&◌}
-use mathlib.Core.Option.{none, some}
+use Rattle.std.specs.Prelude.{None, Some}
 use mathlib.Core.List.{List, [], ◌∷◌, ◌++◌, append_assoc, append-nil}
 use Prim.Native.Nat.{ℕ, suc, ◌+◌, ◌≤◌}
 use native.Mathlib.Nat.{add-zero, zero-add}
@@ -10,8 +10,9 @@ use native.Mathlib.Omega.{arith}
 use lib.Dec.{eqb}
 use lib.ListN.{length, drop}
 use borrow.Author.Tests.{eq-eqb, ne_eqb}
-use Rattle.laws.specs.Optional.{or_else}
-use Rattle.laws.specs.Lists.{any, all, count, find_at, any_at, each_at}
+use Rattle.std.specs.Option.{option_or}
+use Rattle.laws.specs.Lists.{count, find_at, any_at, each_at}
+use Rattle.std.specs.List.{list_any, list_all}
 use Rattle.laws.specs.Texts.{Text, same}
 use Rattle.laws.proofs.Tests.{and-no-second}
 use Rattle.laws.proofs.Slices.{Seen}
@@ -53,28 +54,22 @@ fold_next {g = g} step {s = s} {x = x} law e a q = scan-next e a (λ xs. law s x
 -- ---- what each fold does at an element and at the end: the last argument of the laws above
 
 module _ {A : Type 0} (p : A → Bool) where
-  pub any-hit : {x : A} → p x ≡ true → (xs : List A) → any p (x ∷ xs) ≡ true
-  unfolding any
-  any-hit e xs = ap (λ b. b || any p xs) e
+  pub any-hit : {x : A} → p x ≡ true → (xs : List A) → list_any p (x ∷ xs) ≡ true
+  any-hit e xs = ap (λ b. b || list_any p xs) e
 
-  pub any-miss : {x : A} → p x ≡ false → (xs : List A) → any p (x ∷ xs) ≡ any p xs
-  unfolding any
-  any-miss e xs = ap (λ b. b || any p xs) e
+  pub any-miss : {x : A} → p x ≡ false → (xs : List A) → list_any p (x ∷ xs) ≡ list_any p xs
+  any-miss e xs = ap (λ b. b || list_any p xs) e
 
-  pub any-end : any p [] ≡ false
-  unfolding any
+  pub any-end : list_any p [] ≡ false
   any-end = refl
 
-  pub all-hit : {x : A} → p x ≡ false → (xs : List A) → all p (x ∷ xs) ≡ false
-  unfolding all
-  all-hit e xs = ap (λ b. b && all p xs) e
+  pub all-hit : {x : A} → p x ≡ false → (xs : List A) → list_all p (x ∷ xs) ≡ false
+  all-hit e xs = ap (λ b. b && list_all p xs) e
 
-  pub all-miss : {x : A} → p x ≡ true → (xs : List A) → all p (x ∷ xs) ≡ all p xs
-  unfolding all
-  all-miss e xs = ap (λ b. b && all p xs) e
+  pub all-miss : {x : A} → p x ≡ true → (xs : List A) → list_all p (x ∷ xs) ≡ list_all p xs
+  all-miss e xs = ap (λ b. b && list_all p xs) e
 
-  pub all_end : all p [] ≡ true
-  unfolding all
+  pub all_end : list_all p [] ≡ true
   all_end = refl
 
   -- k have passed so far.
@@ -103,15 +98,15 @@ module _ {A : Type 0} (p : A → Bool) where
       one false = omega arith
 
 module _ {A : Type 0} (p : ℕ → A → Bool) where
-  pub find-hit : {i : ℕ} {x : A} → p i x ≡ true → (xs : List A) → find_at p i (x ∷ xs) ≡ some i
+  pub find-hit : {i : ℕ} {x : A} → p i x ≡ true → (xs : List A) → find_at p i (x ∷ xs) ≡ Some i
   unfolding find_at
-  find-hit {i} e xs = ap (λ b. or_else (cond b (some i) none) (find_at p (suc i) xs)) e
+  find-hit {i} e xs = ap (λ b. option_or (cond b (Some i) None) (find_at p (suc i) xs)) e
 
   pub find-miss : {i : ℕ} {x : A} → p i x ≡ false → (xs : List A) → find_at p i (x ∷ xs) ≡ find_at p (i + 1) xs
   unfolding find_at
-  find-miss {i} e xs = ap (λ b. or_else (cond b (some i) none) (find_at p (suc i) xs)) e ∙ rw add-one
+  find-miss {i} e xs = ap (λ b. option_or (cond b (Some i) None) (find_at p (suc i) xs)) e ∙ rw add-one
 
-  pub find-end : (i : ℕ) → find_at p i [] ≡ none
+  pub find-end : (i : ℕ) → find_at p i [] ≡ None
   unfolding find_at
   find-end i = refl
 

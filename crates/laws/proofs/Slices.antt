@@ -2,7 +2,7 @@
 use mathlib.Core.Path.{◌≡◌, refl, sym, ap, ◌∙◌}
 use mathlib.Core.Bool.{true, false}
 use mathlib.Core.Logic.{◌≢◌}
-use mathlib.Core.Option.{none, some}
+use Rattle.std.specs.Prelude.{None, Some, option_map, slice_get}
 use mathlib.Core.List.{List, [], ◌∷◌, ◌++◌, map}
 use Prim.Native.Nat.{ℕ, zero, suc, ◌+◌, ◌≤◌, ◌<◌}
 use native.Mathlib.Nat.{le_of_suc-le-suc, not-suc-le-zero, zero-add, suc-add, add-zero}
@@ -10,8 +10,7 @@ use native.Mathlib.Numerals.{add-one}
 use native.Mathlib.Omega.{arith}
 use lib.ListN.{length, get_or, set, take, drop, replicate, length-map, get_or-map, get_or-replicate, length-replicate, length-set}
 use lib.Seq.{drop-nil, drop-cons, slice-cons, length-take-le, take-set-lt, get_or-drop, take-suc, drop-drop}
-use Rattle.laws.specs.Optional.{omap}
-use Rattle.laws.specs.Lists.{All, nth, head, rest, is_empty, modify}
+use Rattle.laws.specs.Lists.{All, head, rest, is_empty, modify}
 
 -- ---- one element
 
@@ -22,50 +21,42 @@ module _ {A : Type 0} where
   get_d_any (x ∷ xs) a b {i = zero} h = refl
   get_d_any (x ∷ xs) a b {i = suc i} h = get_d_any xs a b (le_of_suc-le-suc h)
 
-  pub nth-get_or : (l : List A) (d : A) {i : ℕ} → i < length l → nth l i ≡ some (get_or l i d)
-  unfolding nth
+  pub nth-get_or : (l : List A) (d : A) {i : ℕ} → i < length l → slice_get l i ≡ Some (get_or l i d)
   nth-get_or [] d h = absurd (not-suc-le-zero h)
   nth-get_or (x ∷ xs) d {i = zero} h = refl
   nth-get_or (x ∷ xs) d {i = suc i} h = nth-get_or xs d (le_of_suc-le-suc h)
 
-  pub nth_end : (l : List A) {i : ℕ} → length l ≤ i → nth l i ≡ none
-  unfolding nth
+  pub nth_end : (l : List A) {i : ℕ} → length l ≤ i → slice_get l i ≡ None
   nth_end [] h = refl
   nth_end (x ∷ xs) {i = zero} h = absurd (not-suc-le-zero h)
   nth_end (x ∷ xs) {i = suc i} h = nth_end xs (le_of_suc-le-suc h)
 
-  pub nth-take : (l : List A) {n i : ℕ} → i < n → nth (take n l) i ≡ nth l i
-  unfolding nth
+  pub nth-take : (l : List A) {n i : ℕ} → i < n → slice_get (take n l) i ≡ slice_get l i
   nth-take l {n = zero} h = absurd (not-suc-le-zero h)
   nth-take [] {n = suc n} h = refl
   nth-take (x ∷ xs) {n = suc n} {i = zero} h = refl
   nth-take (x ∷ xs) {n = suc n} {i = suc i} h = nth-take xs (le_of_suc-le-suc h)
 
-  pub nth_drop : (l : List A) (n i : ℕ) → nth (drop n l) i ≡ nth l (n + i)
-  unfolding nth
+  pub nth_drop : (l : List A) (n i : ℕ) → slice_get (drop n l) i ≡ slice_get l (n + i)
   nth_drop l zero i = rw zero-add
   nth_drop [] (suc n) i = refl
   nth_drop (x ∷ xs) (suc n) i = rw suc-add (nth_drop xs n i)
 
-  pub nth-append : (s t : List A) {i : ℕ} → i < length s → nth (s ++ t) i ≡ nth s i
-  unfolding nth
+  pub nth-append : (s t : List A) {i : ℕ} → i < length s → slice_get (s ++ t) i ≡ slice_get s i
   nth-append [] t h = absurd (not-suc-le-zero h)
   nth-append (x ∷ s) t {i = zero} h = refl
   nth-append (x ∷ s) t {i = suc i} h = nth-append s t (le_of_suc-le-suc h)
 
-  pub nth-append-add : (s t : List A) (i : ℕ) → nth (s ++ t) (length s + i) ≡ nth t i
-  unfolding nth
+  pub nth-append-add : (s t : List A) (i : ℕ) → slice_get (s ++ t) (length s + i) ≡ slice_get t i
   nth-append-add [] t i = rw zero-add
   nth-append-add (x ∷ s) t i = rw suc-add (nth-append-add s t i)
 
-  pub nth-set-same : (l : List A) (x : A) {i : ℕ} → i < length l → nth (set l i x) i ≡ some x
-  unfolding nth
+  pub nth-set-same : (l : List A) (x : A) {i : ℕ} → i < length l → slice_get (set l i x) i ≡ Some x
   nth-set-same [] x h = absurd (not-suc-le-zero h)
   nth-set-same (y ∷ ys) x {i = zero} h = refl
   nth-set-same (y ∷ ys) x {i = suc i} h = nth-set-same ys x (le_of_suc-le-suc h)
 
-  pub nth-set-other : (l : List A) (x : A) {i j : ℕ} → j ≢ i → nth (set l i x) j ≡ nth l j
-  unfolding nth
+  pub nth-set-other : (l : List A) (x : A) {i j : ℕ} → j ≢ i → slice_get (set l i x) j ≡ slice_get l j
   nth-set-other [] x h = refl
   nth-set-other (y ∷ ys) x {i = zero} {j = zero} h = absurd (h refl)
   nth-set-other (y ∷ ys) x {i = zero} {j = suc j} h = refl
@@ -91,22 +82,22 @@ module _ {A : Type 0} where
   length-modify zero f (x ∷ xs) = refl
   length-modify (suc i) f (x ∷ xs) = ap suc (length-modify i f xs)
 
-  pub nth-modify-same : (i : ℕ) (f : A → A) (l : List A) → nth (modify i f l) i ≡ omap f (nth l i)
-  unfolding nth modify
+  pub nth-modify-same : (i : ℕ) (f : A → A) (l : List A) → slice_get (modify i f l) i ≡ option_map f (slice_get l i)
+  unfolding modify
   nth-modify-same i f [] = refl
   nth-modify-same zero f (x ∷ xs) = refl
   nth-modify-same (suc i) f (x ∷ xs) = nth-modify-same i f xs
 
-  pub nth-modify-other : (f : A → A) (l : List A) {i j : ℕ} → j ≢ i → nth (modify i f l) j ≡ nth l j
-  unfolding nth modify
+  pub nth-modify-other : (f : A → A) (l : List A) {i j : ℕ} → j ≢ i → slice_get (modify i f l) j ≡ slice_get l j
+  unfolding modify
   nth-modify-other f [] h = refl
   nth-modify-other f (y ∷ ys) {i = zero} {j = zero} h = absurd (h refl)
   nth-modify-other f (y ∷ ys) {i = zero} {j = suc j} h = refl
   nth-modify-other f (y ∷ ys) {i = suc i} {j = zero} h = refl
   nth-modify-other f (y ∷ ys) {i = suc i} {j = suc j} h = nth-modify-other f ys (λ e. h (ap suc e))
 
-  pub head-nth : (l : List A) → head l ≡ nth l 0
-  unfolding head nth
+  pub head-nth : (l : List A) → head l ≡ slice_get l 0
+  unfolding head
   head-nth [] = refl
   head-nth (x ∷ xs) = refl
 
@@ -195,8 +186,8 @@ module _ {A : Type 0} where
     pub seen-take : take (i + 1) w ≡ take i w ++ x ∷ []
     seen-take = rw (add-one, take-suc w i x seen-length, seen-get_or x)
 
-    pub seen-nth : nth w i ≡ some x
-    seen-nth = nth-get_or w x seen-length ∙ ap some (seen-get_or x)
+    pub seen-nth : slice_get w i ≡ Some x
+    seen-nth = nth-get_or w x seen-length ∙ ap Some (seen-get_or x)
 
     pub seen-modify : (f : A → A) → modify i f w ≡ set w i (f x)
     seen-modify f = modify-set i f w x ∙ ap (λ y. set w i (f y)) (seen-get_or x)

@@ -2,11 +2,12 @@
 use mathlib.Core.Path.{◌≡◌, refl, ap, ◌∙◌}
 use mathlib.Core.Bool.{Bool, true, false, cond, not, ◌&&◌, ◌||◌}
 use mathlib.Core.Logic.{◌⊎◌, inl, inr, ⊎_elim}
-use mathlib.Core.Option.{Option, none, some}
+use Rattle.std.specs.Prelude.{Option, None, Some, is_some, option_map}
 use Prim.Native.Nat.{ℕ, ◌≤◌, ◌<◌}
 use lib.Dec.{eqb, ltb, leb}
 use borrow.Author.Tests.{ltb-true, ltb-false, eq-eqb, ne_eqb, lt-ltb, le-ltb, le-leb, lt-leb}
-use Rattle.laws.specs.Optional.{is_some, or_else, value_or, when_some, omap}
+use Rattle.laws.specs.Optional.{value_or, when_some}
+use Rattle.std.specs.Option.{option_or}
 
 module _ {A : Type 0} (x y : A) where
   pub cond_yes : {b : Bool} → b ≡ true → cond b x y ≡ x
@@ -93,37 +94,37 @@ or-neither true b e = (e, (cc))
 or-neither false b e = (refl, e)
 
 module _ {A : Type 0} {o : Option A} where
-  pub is-some-yes : {a : A} → o ≡ some a → is_some o ≡ true
+  pub is-some-yes : {a : A} → o ≡ Some a → is_some o ≡ true
   is-some-yes e = ap is_some e
 
-  pub is-some-no : o ≡ none → is_some o ≡ false
+  pub is-some-no : o ≡ None → is_some o ≡ false
   is-some-no e = ap is_some e
 
-  pub or_else_some : {a : A} (p : Option A) → o ≡ some a → or_else o p ≡ some a
-  or_else_some p e = ap (λ t. or_else t p) e
+  pub or_else_some : {a : A} (p : Option A) → o ≡ Some a → option_or o p ≡ Some a
+  or_else_some p e = ap (λ t. option_or t p) e
 
-  pub or_else_none : (p : Option A) → o ≡ none → or_else o p ≡ p
-  or_else_none p e = ap (λ t. or_else t p) e
+  pub or_else_none : (p : Option A) → o ≡ None → option_or o p ≡ p
+  or_else_none p e = ap (λ t. option_or t p) e
 
-  pub value_or-some : {a : A} (d : A) → o ≡ some a → value_or d o ≡ a
+  pub value_or-some : {a : A} (d : A) → o ≡ Some a → value_or d o ≡ a
   value_or-some d e = ap (value_or d) e
 
-  pub value_or-none : (d : A) → o ≡ none → value_or d o ≡ d
+  pub value_or-none : (d : A) → o ≡ None → value_or d o ≡ d
   value_or-none d e = ap (value_or d) e
 
-pub or-else-none-right : {A : Type 0} (o : Option A) → or_else o none ≡ o
-or-else-none-right none = refl
-or-else-none-right (some a) = refl
+pub or-else-none-right : {A : Type 0} (o : Option A) → option_or o None ≡ o
+or-else-none-right None = refl
+or-else-none-right (Some a) = refl
 
 module _ {A B : Type 0} {o : Option A} where
-  pub when_some-some : {a : A} (b : B) (f : A → B) → o ≡ some a → when_some o b f ≡ f a
+  pub when_some-some : {a : A} (b : B) (f : A → B) → o ≡ Some a → when_some o b f ≡ f a
   when_some-some b f e = ap (λ t. when_some t b f) e
 
-  pub when_some-none : (b : B) (f : A → B) → o ≡ none → when_some o b f ≡ b
+  pub when_some-none : (b : B) (f : A → B) → o ≡ None → when_some o b f ≡ b
   when_some-none b f e = ap (λ t. when_some t b f) e
 
-  pub omap-some : {a : A} (f : A → B) → o ≡ some a → omap f o ≡ some (f a)
-  omap-some f e = ap (omap f) e
+  pub omap-some : {a : A} (f : A → B) → o ≡ Some a → option_map f o ≡ Some (f a)
+  omap-some f e = ap (option_map f) e
 
-  pub omap-none : (f : A → B) → o ≡ none → omap f o ≡ none
-  omap-none f e = ap (omap f) e
+  pub omap-none : (f : A → B) → o ≡ None → option_map f o ≡ None
+  omap-none f e = ap (option_map f) e

@@ -1,7 +1,7 @@
 -- Lists: searched from the front, a place in one counted from 0.
-use Rattle.std.specs.Prelude.{ℕ, zero, suc, ◌+◌, Bool, true, false, cond, ◌&&◌, ◌||◌, List, [], ◌∷◌, ◌++◌, eqb}
-use Rattle.std.proofs.Math.Option.{Option, none, some}
-use Rattle.laws.specs.Optional.{or_else}
+use Rattle.std.specs.Prelude.{ℕ, zero, suc, ◌+◌, Bool, true, false, cond, ◌||◌, List, [], ◌∷◌, ◌++◌, eqb, Option, None, Some}
+use Rattle.std.specs.Option.{option_or}
+use Rattle.std.specs.List.{list_any}
 
 -- P holds of each element.
 abbrev pub All : {A : Type 0} → (A → Type 0) → List A → Type 0
@@ -14,15 +14,9 @@ pub data All2 {A B : Type 0} (r : A → B → Type 0) : List A → List B → Ty
   more2 : {a : A} {b : B} {as' : List A} {bs : List B} → r a b → All2 r as' bs → All2 r (a ∷ as') (b ∷ bs)
 
 module _ {A : Type 0} where
-  -- The element at a place.
-  unfoldable pub nth : List A → ℕ → Option A
-  nth [] n = none
-  nth (x ∷ xs) zero = some x
-  nth (x ∷ xs) (suc n) = nth xs n
-
   unfoldable pub head : List A → Option A
-  head [] = none
-  head (x ∷ xs) = some x
+  head [] = None
+  head (x ∷ xs) = Some x
 
   -- All but the first.
   unfoldable pub rest : List A → List A
@@ -32,14 +26,6 @@ module _ {A : Type 0} where
   unfoldable pub is_empty : List A → Bool
   is_empty [] = true
   is_empty (x ∷ xs) = false
-
-  unfoldable pub any : (A → Bool) → List A → Bool
-  any p [] = false
-  any p (x ∷ xs) = p x || any p xs
-
-  unfoldable pub all : (A → Bool) → List A → Bool
-  all p [] = true
-  all p (x ∷ xs) = p x && all p xs
 
   unfoldable pub count : (A → Bool) → List A → ℕ
   count p [] = 0
@@ -58,8 +44,8 @@ module _ {A : Type 0} where
 
   -- The first place, counted from i, whose place and element pass.
   unfoldable pub find_at : (ℕ → A → Bool) → ℕ → List A → Option ℕ
-  find_at p i [] = none
-  find_at p i (x ∷ xs) = or_else (cond (p i x) (some i) none) (find_at p (suc i) xs)
+  find_at p i [] = None
+  find_at p i (x ∷ xs) = option_or (cond (p i x) (Some i) None) (find_at p (suc i) xs)
 
   -- A place and its element pass.
   unfoldable pub any_at : (ℕ → A → Bool) → ℕ → List A → Bool
@@ -74,9 +60,9 @@ module _ {A B : Type 0} where
 
 -- Is a number in a list?
 abbrev pub elem : ℕ → List ℕ → Bool
-elem n xs = any (eqb n) xs
+elem n xs = list_any (eqb n) xs
 
 -- All of these unfold where a line says `unfolding lists`.
 unfoldable pub lists : Unit {0}
-unfolding nth head rest is_empty any all count keep modify find_at any_at each_at
+unfolding head rest is_empty count keep modify find_at any_at each_at
 lists = tt

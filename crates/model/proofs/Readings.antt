@@ -2,12 +2,13 @@
 use Prim.Native.Nat.{ℕ, zero, suc}
 use mathlib.Core.Path.{◌≡◌, refl}
 use mathlib.Core.Bool.{Bool, true, false, cond, ◌&&◌}
-use mathlib.Core.Option.{Option, none, some}
+use Rattle.std.specs.Prelude.{Option, None, Some, is_some}
 use mathlib.Core.List.{List, [], ◌∷◌, ◌++◌, map}
 use lib.Dec.{eqb}
 use lib.ListN.{length, replicate}
-use Rattle.laws.specs.Optional.{is_some, is_none, value_or}
-use Rattle.laws.specs.Lists.{is_empty, all}
+use Rattle.laws.specs.Optional.{is_none, value_or}
+use Rattle.laws.specs.Lists.{is_empty}
+use Rattle.std.specs.List.{list_all}
 use Rattle.laws.specs.Numbers.{max64}
 use Rattle.laws.specs.Texts.{Text, bytes, same, decimal}
 use Rattle.capability.specs.declared.PipelineInstructionClass.{PipelineInstructionClass}
@@ -87,10 +88,10 @@ abbrev x1 : Text
 x1 = bytes "x1"
 
 abbrev op : PipelineInstructionClass → List Text → List Text → Given
-op c r w = given (decoded 0 4 c false false) (info_of (bytes "op") none none r w 0)
+op c r w = given (decoded 0 4 c false false) (info_of (bytes "op") None None r w 0)
 
 abbrev cycle : List Call
-cycle = start ∷ advance none memory ∷ []
+cycle = start ∷ advance None memory ∷ []
 
 -- A cycle, a fetch.
 abbrev after-fetch : Given → State
@@ -122,7 +123,7 @@ writes-are-claimed = refl
 -- ── No decision reads a name, a text or a payload ───────────────────────────
 
 abbrev other-op : Text → ℕ → List Text → List Text → Given
-other-op t p r w = given (decoded 0 4 Alu false false) (info_of t none none r w p)
+other-op t p r w = given (decoded 0 4 Alu false false) (info_of t None None r w p)
 
 -- Two operations, the second reading what the first writes, and some cycles.
 abbrev two-ops : Text → Text → Text → ℕ → State
@@ -159,7 +160,7 @@ unit-in p r w = unit_of 0 0 Alu false true no_op p r w []
 abbrev held_up : Phase → Bool
 held_up p = is_some (write_blocked (unit-in p (0 ∷ []) [] ∷ unit-in Write [] (0 ∷ []) ∷ []) 1)
 
-war_outlasts_the_read : all held_up (Wait ∷ Read ∷ Execute ∷ Write ∷ []) ≡ true
+war_outlasts_the_read : list_all held_up (Wait ∷ Read ∷ Execute ∷ Write ∷ []) ≡ true
 unfolding everything
 war_outlasts_the_read = refl
 
@@ -198,7 +199,7 @@ abbrev opened : State → State
 opened s = turned true false s
 
 abbrev offering : State → State
-offering s = with_offer (offer_of (some 0) false) s
+offering s = with_offer (offer_of (Some 0) false) s
 
 abbrev bad : Text
 bad = 10 ∷ []
@@ -212,7 +213,7 @@ abbrev numbered : ℕ → List Text → State
 numbered n ns = with_registers ns [] (with_front (with_next 0 n fresh.front) fresh)
 
 abbrev worded : Text → List Text → Given
-worded t r = given (decoded 0 4 Alu false false) (info_of t none none r [] 0)
+worded t r = given (decoded 0 4 Alu false false) (info_of t None None r [] 0)
 
 -- The state with numbers out and names full, and one with neither.
 abbrev fetch-order : State → State → List (Option ℕ)
@@ -236,7 +237,7 @@ unfolding everything
 ninth-name-unread = refl
 
 abbrev shaped : Text → ℕ → ℕ → ℕ → PipelineShape
-shaped name extra n h = pipeline_shape [] none (timing extra 0 0 0 0 0 0) (unit_spec name [] Alu n ∷ []) h
+shaped name extra n h = pipeline_shape [] None (timing extra 0 0 0 0 0 0) (unit_spec name [] Alu n ∷ []) h
 
 abbrev make-order : List (Option ℕ)
 make-order =
@@ -270,8 +271,8 @@ order-of-retry = refl
 
 abbrev advance-order : List (Option ℕ)
 advance-order =
-    refusal (offering fresh) (advance none 0) ∷ refusal (opened (offering fresh)) (advance none 0) ∷ refusal (opened fresh) (advance none 0)
-    ∷ refusal (opened fresh) (advance none memory) ∷ []
+    refusal (offering fresh) (advance None 0) ∷ refusal (opened (offering fresh)) (advance None 0) ∷ refusal (opened fresh) (advance None 0)
+    ∷ refusal (opened fresh) (advance None memory) ∷ []
 
 order-of-advance : in_order advance-order (5 ∷ 7 ∷ 13 ∷ 0 ∷ []) ≡ true
 unfolding everything
@@ -302,7 +303,7 @@ abbrev full : Stats
 full = stats_of max64 max64 max64 max64 max64 max64 max64 max64 max64 max64 max64 max64
 
 abbrev still_full : Stats → Bool
-still_full a = all (eqb max64) (counters a)
+still_full a = list_all (eqb max64) (counters a)
 
 abbrev hazards : List PipelineHazardKind
 hazards =
@@ -312,7 +313,7 @@ counters-stop : (still_full (count_cycle full) && still_full (count_retired true
 unfolding everything
 counters-stop = refl
 
-stall-counters-stop : all (λ (h : PipelineHazardKind). still_full (count_stall h full)) hazards ≡ true
+stall-counters-stop : list_all (λ (h : PipelineHazardKind). still_full (count_stall h full)) hazards ≡ true
 unfolding everything
 stall-counters-stop = refl
 
@@ -349,11 +350,11 @@ text-of-drain : reads_as (drains (bytes "ecall")) (bytes "ecall waits for the ma
 unfolding everything
 text-of-drain = refl
 
-text-of-raw : reads_as (waits_for add x1 (some mul)) (bytes "add waits for x1 from mul") ≡ true
+text-of-raw : reads_as (waits_for add x1 (Some mul)) (bytes "add waits for x1 from mul") ≡ true
 unfolding everything
 text-of-raw = refl
 
-text-of-raw-without : reads_as (waits_for add x1 none) (bytes "add waits for x1 from an older instruction") ≡ true
+text-of-raw-without : reads_as (waits_for add x1 None) (bytes "add waits for x1 from an older instruction") ≡ true
 unfolding everything
 text-of-raw-without = refl
 

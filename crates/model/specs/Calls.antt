@@ -1,9 +1,8 @@
 -- The calls on an engine: what each is refused for, what it answers and leaves, and what it looks at.
 -- A call carries the length of the memory that is lent with it.
-use Rattle.std.specs.Prelude.{ℕ, ◌*◌, max, Bool, true, false, cond, not, ◌&&◌, ◌||◌, List, [], ◌∷◌, ◌++◌, eqb, ltb, length, take}
-use Rattle.std.proofs.Math.Option.{Option, none, some}
-use Rattle.laws.specs.Optional.{is_none, when_some, omap}
-use Rattle.laws.specs.Lists.{nth, any}
+use Rattle.std.specs.Prelude.{ℕ, ◌*◌, max, Bool, true, false, cond, not, ◌&&◌, ◌||◌, List, [], ◌∷◌, ◌++◌, eqb, ltb, length, take, Option, None, Some, option_map, slice_get}
+use Rattle.laws.specs.Optional.{is_none, when_some}
+use Rattle.std.specs.List.{list_any}
 use Rattle.laws.specs.Numbers.{max64}
 use Rattle.laws.specs.Texts.{Text}
 use Rattle.model.specs.Config.{Timing, UnitSpec, specs_or_generic, capacities, PipelineShape}
@@ -95,8 +94,8 @@ Check = ℕ × Bool
 
 -- The number of the first test that holds.
 unfoldable pub first_of : List Check → Option ℕ
-first_of [] = none
-first_of (p ∷ ps) = cond p.1 (some p.0) (first_of ps)
+first_of [] = None
+first_of (p ∷ ps) = cond p.1 (Some p.0) (first_of ps)
 
 -- 1, too big
 unfoldable pub too_big : PipelineShape → Bool
@@ -108,7 +107,7 @@ unfoldable pub bad_byte : ℕ → Bool
 bad_byte b = ltb b 32 || ltb 126 b
 
 unfoldable pub bad_text : ℕ → Text → Bool
-bad_text most t = ltb most (length t) || any bad_byte t
+bad_text most t = ltb most (length t) || list_any bad_byte t
 
 unfoldable pub bad_spec_name : UnitSpec → Bool
 bad_spec_name k = eqb (length k.name) 0 || bad_text 8 k.name
@@ -117,12 +116,12 @@ bad_spec_name k = eqb (length k.name) 0 || bad_text 8 k.name
 unfoldable pub bad_info : Info → Bool
 bad_info i =
     bad_text 64 i.disassembly || when_some i.fault false (bad_text 64) || when_some i.destination false (bad_text 16)
-    || any (bad_text 16) (take 8 i.sources) || any (bad_text 16) (take 4 i.writes)
+    || list_any (bad_text 16) (take 8 i.sources) || list_any (bad_text 16) (take 4 i.writes)
 
 -- 3, a used extra is 2^64 - 1
 unfoldable pub extra_overflows : Timing → Bool
 extra_overflows t =
-    any (eqb max64) (t.alu ∷ t.mul ∷ t.div ∷ t.load ∷ t.store ∷ t.system ∷ t.fp ∷ [])
+    list_any (eqb max64) (t.alu ∷ t.mul ∷ t.div ∷ t.load ∷ t.store ∷ t.system ∷ t.fp ∷ [])
 
 -- 6, no offer
 unfoldable pub no_offer : State → Bool
@@ -150,7 +149,7 @@ short_memory s lent = ltb lent (s.machine.history * 200)
 
 unfoldable pub make_checks : PipelineShape → ℕ → List Check
 make_checks d lent =
-    (1, too_big d) ∷ (2, any bad_spec_name d.units) ∷ (3, extra_overflows d.times) ∷ (13, ltb lent (max 1 d.history * 200)) ∷ []
+    (1, too_big d) ∷ (2, list_any bad_spec_name d.units) ∷ (3, extra_overflows d.times) ∷ (13, ltb lent (max 1 d.history * 200)) ∷ []
 
 unfoldable pub checks : State → Call → List Check
 checks s start = (4, s.front.in_cycle) ∷ []
@@ -162,7 +161,7 @@ checks s (fetch g lent) =
     (4, s.front.in_cycle) ∷ (8, not s.front.invited) ∷ (2, bad_info g.info) ∷ (9, too_many g.info)
     ∷ (11, eqb s.front.next_seq max64) ∷ (10, ltb 256 (names_with s g.info)) ∷ (13, short_memory s lent) ∷ []
 checks s (capacity k n) =
-    (4, s.front.in_cycle) ∷ (12, is_none (nth s.machine.specs k)) ∷ (1, ltb 64 (capacities (with_noted k n s))) ∷ []
+    (4, s.front.in_cycle) ∷ (12, is_none (slice_get s.machine.specs k)) ∷ (1, ltb 64 (capacities (with_noted k n s))) ∷ []
 checks s (overlap b) = []
 checks s halt = []
 checks s (fault note) = (2, bad_text 64 note) ∷ []
@@ -243,12 +242,12 @@ show s buffer_capacity = shown_number 0
 show s (in_flight_before n) = shown_flag (older_in_flight n s)
 show s (stage i) = shown_stage (stage_view s i)
 show s (unit i) = shown_unit (unit_view s i)
-show s (trace i) = shown_trace (omap trace_view (nth s.log.traces i))
-show s (timeline_row i) = shown_row (omap row_view (nth s.log.rows i))
-show s (station i) = shown_station (omap (station_view i) (nth s.units i))
-show s (rename i) = shown_rename (nth (claims s) i)
-show s (queued i) = shown_slot (omap slot_view (nth s.queue i))
-show s (buffer_entry i) = shown_slot none
+show s (trace i) = shown_trace (option_map trace_view (slice_get s.log.traces i))
+show s (timeline_row i) = shown_row (option_map row_view (slice_get s.log.rows i))
+show s (station i) = shown_station (option_map (station_view i) (slice_get s.units i))
+show s (rename i) = shown_rename (slice_get (claims s) i)
+show s (queued i) = shown_slot (option_map slot_view (slice_get s.queue i))
+show s (buffer_entry i) = shown_slot None
 
 -- ── What a call that is not refused leaves, answers, looks at and sets ───────
 
@@ -270,11 +269,11 @@ run s (cell r c lent) = s
 run s (text t room) = s
 
 unfoldable pub invitation_of : State → Option ℕ
-invitation_of s = cond s.front.invited (some s.front.fetch_pc) none
+invitation_of s = cond s.front.invited (Some s.front.fetch_pc) None
 
 -- `m` is the lent cell memory.
 unfoldable pub reply : State → List ℕ → Call → Answer
-reply s m start = offered (omap offer_view (offered_op (start_cycle s)))
+reply s m start = offered (option_map offer_view (offered_op (start_cycle s)))
 reply s m retire = done
 reply s m (retry reason) = done
 reply s m (resolve a) = resolved (resolve_branch (offered_op s) a)
@@ -287,26 +286,26 @@ reply s m (fault note) = done
 reply s m (reset a lent) = done
 reply s m (redirect a) = done
 reply s m (view v) = show s v
-reply s m (cell r c lent) = shown_cell (omap cell_view (cell_byte s m r c))
+reply s m (cell r c lent) = shown_cell (option_map cell_view (cell_byte s m r c))
 reply s m (text t room) = shown_text (text_at s t)
 
 -- The operation looked at, if one is.
 unfoldable pub looked : State → Call → Option Op
-looked s start = none
-looked s retire = none
-looked s (retry reason) = none
-looked s (resolve a) = none
+looked s start = None
+looked s retire = None
+looked s (retry reason) = None
+looked s (resolve a) = None
 looked s (advance r lent) = advance_looked r s
-looked s (fetch g lent) = none
-looked s (capacity k n) = none
-looked s (overlap b) = none
-looked s halt = none
-looked s (fault note) = none
-looked s (reset a lent) = none
-looked s (redirect a) = none
-looked s (view v) = none
-looked s (cell r c lent) = none
-looked s (text t room) = none
+looked s (fetch g lent) = None
+looked s (capacity k n) = None
+looked s (overlap b) = None
+looked s halt = None
+looked s (fault note) = None
+looked s (reset a lent) = None
+looked s (redirect a) = None
+looked s (view v) = None
+looked s (cell r c lent) = None
+looked s (text t room) = None
 
 -- The bytes of the lent cell memory that are set, in order.
 unfoldable pub sets : State → Call → List Write
@@ -343,7 +342,7 @@ unfoldable pub buffer_after : State → Request → List ℕ → List ℕ
 buffer_after s t lent = when_some (refusal s (text t (length lent))) (buffer_with (text_at s t) lent) (λ (n : ℕ). lent)
 
 unfoldable pub looked_by : State → Call → Option Op
-looked_by s c = when_some (refusal s c) (looked s c) (λ (n : ℕ). none)
+looked_by s c = when_some (refusal s c) (looked s c) (λ (n : ℕ). None)
 
 -- What the looks of a call gave: one look at most.
 unfoldable pub looks : State → Call → List (ℕ × List ℕ)

@@ -1,8 +1,8 @@
 -- config.rs: timing, kinds of unit, and the machine.
-use Rattle.std.specs.Prelude.{ℕ, ◌+◌, ◌-◌, min, max, Bool, ◌||◌, List, [], ◌∷◌, map, eqb, length}
-use Rattle.std.proofs.Math.Option.{Option}
+use Rattle.std.specs.Prelude.{ℕ, ◌+◌, ◌-◌, min, max, Bool, ◌||◌, List, [], ◌∷◌, map, eqb, length, Option, slice_get}
 use Rattle.laws.specs.Optional.{value_or, when_some}
-use Rattle.laws.specs.Lists.{nth, any, is_empty, find_at}
+use Rattle.laws.specs.Lists.{is_empty, find_at}
+use Rattle.std.specs.List.{list_any}
 use Rattle.laws.specs.Texts.{Text, bytes}
 use Rattle.capability.specs.declared.PipelineInstructionClass.{PipelineInstructionClass}
 use Rattle.capability.specs.declared.PipelineInstructionClass.TheVariants.{
@@ -83,7 +83,7 @@ with_capacity n k = unit_spec k.name k.classes k.latency_class (max 1 n)
 
 -- An empty list takes every class.
 unfoldable pub handles : PipelineInstructionClass → UnitSpec → Bool
-handles c k = is_empty k.classes || any (same_class c) k.classes
+handles c k = is_empty k.classes || list_any (same_class c) k.classes
 
 -- GENERIC_UNIT: stands in where no kind is declared.
 unfoldable pub generic_unit : UnitSpec
@@ -94,7 +94,7 @@ unfoldable pub spec_index : List UnitSpec → PipelineInstructionClass → ℕ
 spec_index ks c = value_or 0 (find_at (λ (i : ℕ) (k : UnitSpec). handles c k) 0 ks)
 
 unfoldable pub spec_name : List UnitSpec → ℕ → Text
-spec_name ks i = when_some (nth ks i) [] (λ (k : UnitSpec). k.name)
+spec_name ks i = when_some (slice_get ks i) [] (λ (k : UnitSpec). k.name)
 
 unfoldable pub at_least_one : UnitSpec → UnitSpec
 at_least_one k = with_capacity k.capacity k

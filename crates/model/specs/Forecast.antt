@@ -1,9 +1,9 @@
 -- The program `forecast`: lines of operations in; the timeline and the totals out. It drives the engine by the engine's calls alone.
-use Rattle.std.specs.Prelude.{ℕ, zero, suc, ◌+◌, ◌-◌, ◌*◌, Bool, true, false, cond, ◌&&◌, ◌||◌, List, [], ◌∷◌, ◌++◌, eqb, ltb, length, replicate}
+use Rattle.std.specs.Prelude.{ℕ, zero, suc, ◌+◌, ◌-◌, ◌*◌, Bool, true, false, cond, ◌&&◌, ◌||◌, List, [], ◌∷◌, ◌++◌, eqb, ltb, length, replicate, Option, None, Some, is_some}
 use Prim.Native.Char.{code}
-use Rattle.std.proofs.Math.Option.{Option, none, some}
-use Rattle.laws.specs.Optional.{is_some, value_or, when_some}
-use Rattle.laws.specs.Lists.{any, is_empty}
+use Rattle.laws.specs.Optional.{value_or, when_some}
+use Rattle.laws.specs.Lists.{is_empty}
+use Rattle.std.specs.List.{list_any}
 use Rattle.laws.specs.Texts.{Text, bytes, same, before, beyond, pieces, decimal}
 use Rattle.capability.specs.declared.PipelineInstructionClass.{PipelineInstructionClass}
 use Rattle.capability.specs.declared.PipelineInstructionClass.TheVariants.{
@@ -74,25 +74,25 @@ letters =
     ∷ (code "Y", System) ∷ (code "F", FloatingPoint) ∷ (code "U", Unknown) ∷ []
 
 unfoldable pub class_by : List (ℕ × PipelineInstructionClass) → ℕ → Option PipelineInstructionClass
-class_by [] c = none
-class_by (p ∷ ps) c = cond (eqb p.0 c) (some p.1) (class_by ps c)
+class_by [] c = None
+class_by (p ∷ ps) c = cond (eqb p.0 c) (Some p.1) (class_by ps c)
 
 -- A class: one letter.
 unfoldable pub class_in : Text → Option PipelineInstructionClass
-class_in [] = none
+class_in [] = None
 class_in (c ∷ []) = class_by letters c
-class_in (c ∷ d ∷ ds) = none
+class_in (c ∷ d ∷ ds) = None
 
 -- A length: 1 to 15 in decimal, without leading zeros. (The digits are bytes 48 to 57.)
 unfoldable pub size_in : Text → Option ℕ
-size_in [] = none
-size_in (a ∷ []) = cond (ltb 48 a && ltb a 58) (some (a - 48)) none
-size_in (a ∷ b ∷ []) = cond (eqb a 49 && ltb 47 b && ltb b 54) (some (10 + (b - 48))) none
-size_in (a ∷ b ∷ c ∷ cs) = none
+size_in [] = None
+size_in (a ∷ []) = cond (ltb 48 a && ltb a 58) (Some (a - 48)) None
+size_in (a ∷ b ∷ []) = cond (eqb a 49 && ltb 47 b && ltb b 54) (Some (10 + (b - 48))) None
+size_in (a ∷ b ∷ c ∷ cs) = None
 
 -- A list: nonempty names with commas, or `-` alone for none. (`--` and the first of `-,x` are names.)
 unfoldable pub list_in : Text → Option (List Text)
-list_in t = cond (same t (bytes "-")) (some []) (cond (any is_empty (pieces 44 t)) none (some (pieces 44 t)))
+list_in t = cond (same t (bytes "-")) (Some []) (cond (list_any is_empty (pieces 44 t)) None (Some (pieces 44 t)))
 
 -- What a line says: an operation without its address.
 pub record Line : Type 0 where
@@ -106,17 +106,17 @@ abbrev pub line_of : PipelineInstructionClass → ℕ → List Text → List Tex
 line_of c n r w t = record { class = c; size = n; reads = r; writes = w; text = t }
 
 unfoldable pub line_by : Option PipelineInstructionClass → Option ℕ → Option (List Text) → Option (List Text) → Text → Option Line
-line_by none n r w t = none
-line_by (some c) none r w t = none
-line_by (some c) (some n) none w t = none
-line_by (some c) (some n) (some r) none t = none
-line_by (some c) (some n) (some r) (some w) t = some (line_of c n r w t)
+line_by None n r w t = None
+line_by (Some c) None r w t = None
+line_by (Some c) (Some n) None w t = None
+line_by (Some c) (Some n) (Some r) None t = None
+line_by (Some c) (Some n) (Some r) (Some w) t = Some (line_of c n r w t)
 
 -- Class, length, read list and write list, each followed by a space, and the text: all the rest, which may be empty or begin with a
 -- space. None where the line is not of this form.
 unfoldable pub parse : Text → Option Line
 parse t =
-    cond (any (eqb 32) (past 3 t)) (line_by (class_in (word 0 t)) (size_in (word 1 t)) (list_in (word 2 t)) (list_in (word 3 t)) (past 4 t)) none
+    cond (list_any (eqb 32) (past 3 t)) (line_by (class_in (word 0 t)) (size_in (word 1 t)) (list_in (word 2 t)) (list_in (word 3 t)) (past 4 t)) None
 
 -- B and J set the branch flag.
 unfoldable pub branches : PipelineInstructionClass → Bool
@@ -125,13 +125,13 @@ branches c = same_class c Branch || same_class c Jump
 -- A line as an operation at an address.
 unfoldable pub line_given : Line → ℕ → Given
 line_given l a =
-    given (decoded a l.size l.class (branches l.class) false) (info_of l.text none none l.reads l.writes 0)
+    given (decoded a l.size l.class (branches l.class) false) (info_of l.text None None l.reads l.writes 0)
 
 -- ── The run ─────────────────────────────────────────────────────────────────
 
 -- EX of capacity 2 for every class, depth 2, history 256, default timing, no fixed length.
 unfoldable pub forecast_shape : PipelineShape
-forecast_shape = pipeline_shape (role.Fetch ∷ role.Decode ∷ role.Execute ∷ []) none default_timing (unit_spec (bytes "EX") [] Alu 2 ∷ []) 256
+forecast_shape = pipeline_shape (role.Fetch ∷ role.Decode ∷ role.Execute ∷ []) None default_timing (unit_spec (bytes "EX") [] Alu 2 ∷ []) 256
 
 -- An engine, and the cell memory that is lent to each of its calls.
 pub record Lent : Type 0 where
@@ -160,26 +160,26 @@ retire_offer e = cond (is_some (offered_op e.engine)) (play retire e) e
 
 -- A cycle up to its invitation.
 unfoldable pub cycle : Lent → Lent
-cycle e = play (advance none (length e.cells)) (retire_offer (play start e))
+cycle e = play (advance None (length e.cells)) (retire_offer (play start e))
 
 unfoldable pub fetch_line : Line → ℕ → Lent → Call
 fetch_line l a e = fetch (line_given l a) (length e.cells)
 
 -- Line n is fetched, by that call and what it is refused for.
 unfoldable pub take_fetched : Option ℕ → Call → Text → ℕ → Lent → Run
-take_fetched (some r) c input n e = line_refused n r e.cells
-take_fetched none c input n e = going (play c e) input n
+take_fetched (Some r) c input n e = line_refused n r e.cells
+take_fetched None c input n e = going (play c e) input n
 
 -- Line n is taken at address a; 14 comes before the engine's own checks.
 unfoldable pub take_parsed : Option Line → ℕ → Text → ℕ → Lent → Run
-take_parsed none a input n e = line_refused n 14 e.cells
-take_parsed (some l) a input n e = take_fetched (refusal e.engine (fetch_line l a e)) (fetch_line l a e) input n e
+take_parsed None a input n e = line_refused n 14 e.cells
+take_parsed (Some l) a input n e = take_fetched (refusal e.engine (fetch_line l a e)) (fetch_line l a e) input n e
 
 -- By the invitation and the input that is left: a line is read only when an invitation takes it.
 unfoldable pub take_line : Option ℕ → Text → ℕ → Lent → Run
-take_line none input n e = going e input n
-take_line (some a) [] n e = going e [] n
-take_line (some a) (x ∷ xs) n e = take_parsed (parse (first_line (x ∷ xs))) a (other_lines (x ∷ xs)) (suc n) e
+take_line None input n e = going e input n
+take_line (Some a) [] n e = going e [] n
+take_line (Some a) (x ∷ xs) n e = take_parsed (parse (first_line (x ∷ xs))) a (other_lines (x ∷ xs)) (suc n) e
 
 unfoldable pub cycle_and_line : Lent → Text → ℕ → Run
 cycle_and_line e input n = take_line (invitation_of (cycle e).engine) input n (cycle e)

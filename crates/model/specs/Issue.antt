@@ -1,8 +1,7 @@
 -- scoreboard.rs: the parts of a cycle after the write: redirect, execute, read operands, issue, timeline.
-use Rattle.std.specs.Prelude.{ℕ, ◌+◌, Bool, true, false, cond, not, ◌&&◌, ◌||◌, List, [], ◌∷◌, ◌++◌, map, eqb, length}
-use Rattle.std.proofs.Math.Option.{Option, none, some}
-use Rattle.laws.specs.Optional.{is_some, value_or, when_some}
-use Rattle.laws.specs.Lists.{nth, modify, find_at, keep}
+use Rattle.std.specs.Prelude.{ℕ, ◌+◌, Bool, true, false, cond, not, ◌&&◌, ◌||◌, List, [], ◌∷◌, ◌++◌, map, eqb, length, Option, None, Some, is_some, slice_get}
+use Rattle.laws.specs.Optional.{value_or, when_some}
+use Rattle.laws.specs.Lists.{modify, find_at, keep}
 use Rattle.laws.specs.Texts.{Text}
 use Rattle.capability.specs.declared.PipelineInstructionClass.{PipelineInstructionClass}
 use Rattle.capability.specs.declared.PipelineHazardKind.{PipelineHazardKind}
@@ -50,11 +49,11 @@ complete_at i s =
     (with_registers s.names (release_all i s.producer (unit_at s.units i).destinations)
     (with_marks
     (marks (not (unit_at s.units i).redirects && s.marks.branch) (not (is_system (unit_at s.units i).class) && s.marks.system))
-    (with_offer (offer_of none false) s)))
+    (with_offer (offer_of None false) s)))
 
 unfoldable pub complete_offer : Option ℕ → State → State
-complete_offer none s = s
-complete_offer (some i) s = complete_at i s
+complete_offer None s = s
+complete_offer (Some i) s = complete_at i s
 
 unfoldable pub complete_write : State → State
 complete_write s = complete_offer s.offer.writing s
@@ -76,8 +75,8 @@ flush target s =
     s))
 
 unfoldable pub redirected : Option ℕ → State → State
-redirected none s = s
-redirected (some target) s = flush target s
+redirected None s = s
+redirected (Some target) s = flush target s
 
 -- ── Execute and read operands ───────────────────────────────────────────────
 
@@ -88,14 +87,14 @@ unfoldable pub start_ready : State → State
 start_ready s = with_units (map begin s.units) s
 
 unfoldable pub producer_text : FunctionalUnit → Option Text
-producer_text u = cond u.busy (some (mnemonic u.op)) none
+producer_text u = cond u.busy (Some (mnemonic u.op)) None
 
 unfoldable pub wait_detail : List FunctionalUnit → List Text → FunctionalUnit → (ℕ × ℕ) → Detail
 wait_detail us ns u p = waits_for (mnemonic u.op) (name_of ns p.0) (producer_text (unit_at us p.1))
 
 -- The wait of a unit is its first.
 unfoldable pub wait_trace : List FunctionalUnit → List Text → FunctionalUnit → Trace
-wait_trace us ns u = trace_of ReadAfterWrite EXECUTE ISSUE (wait_detail us ns u (value_or (0, 0) (nth u.pending 0)))
+wait_trace us ns u = trace_of ReadAfterWrite EXECUTE ISSUE (wait_detail us ns u (value_or (0, 0) (slice_get u.pending 0)))
 
 unfoldable pub read_operands : State → State
 read_operands s =
@@ -107,7 +106,7 @@ read_operands s =
 -- block_issue
 unfoldable pub block_issue : PipelineHazardKind → Detail → State → State
 block_issue h d s =
-    with_queue (modify 0 (with_hazard (some h)) s.queue) (with_log (stall_all (trace_of h ISSUE FETCH d ∷ []) s.log) s)
+    with_queue (modify 0 (with_hazard (Some h)) s.queue) (with_log (stall_all (trace_of h ISSUE FETCH d ∷ []) s.log) s)
 
 -- free_unit: the lowest of the kind.
 unfoldable pub is_free : ℕ → ℕ → FunctionalUnit → Bool
@@ -118,8 +117,8 @@ free_unit ks us c = find_at (is_free (spec_index ks c)) 0 us
 
 -- The first destination that somebody in flight writes.
 unfoldable pub taken : List (Option ℕ) → List ℕ → Option ℕ
-taken ps [] = none
-taken ps (r ∷ rs) = cond (is_some (producer_of ps r)) (some r) (taken ps rs)
+taken ps [] = None
+taken ps (r ∷ rs) = cond (is_some (producer_of ps r)) (Some r) (taken ps rs)
 
 -- The sources that are owed, with the unit that owes each.
 unfoldable pub waits_on : List (Option ℕ) → List ℕ → List (ℕ × ℕ)
@@ -140,10 +139,10 @@ place o rest r w i s =
 
 -- By the first claimed destination, and the free unit.
 unfoldable pub issue_to : Op → List Op → List ℕ → List ℕ → Option ℕ → Option ℕ → State → State
-issue_to o rest r w (some t) free s = block_issue WriteAfterWrite (still_writes (mnemonic o) (name_of s.names t)) s
-issue_to o rest r w none none s =
+issue_to o rest r w (Some t) free s = block_issue WriteAfterWrite (still_writes (mnemonic o) (name_of s.names t)) s
+issue_to o rest r w None None s =
     block_issue FunctionalUnitBusy (all_busy (spec_name s.machine.specs (spec_index s.machine.specs o.core.decoded.class))) s
-issue_to o rest r w none (some i) s = place o rest r w i s
+issue_to o rest r w None (Some i) s = place o rest r w i s
 
 -- After the look.
 unfoldable pub issue_looked : Op → List Op → Operands → State → State
@@ -166,12 +165,12 @@ issue s = issue_front s.queue s
 
 -- The operation that an issue looks at, if it does.
 unfoldable pub look_choose : Bool → Bool → Op → Option Op
-look_choose true y o = none
-look_choose false true o = none
-look_choose false false o = some o
+look_choose true y o = None
+look_choose false true o = None
+look_choose false false o = Some o
 
 unfoldable pub look_front : List Op → Marks → Option Op
-look_front [] k = none
+look_front [] k = None
 look_front (o ∷ rest) k = look_choose k.branch k.system o
 
 unfoldable pub looked_at : State → Option Op
@@ -207,8 +206,8 @@ record_timeline s = with_log (with_rows (push_all (timeline_cells s) s.log.rows)
 
 -- The bytes of the cell memory that a redirect and a timeline set.
 unfoldable pub redirect_writes : Option ℕ → State → List CellWrite
-redirect_writes none s = []
-redirect_writes (some target) s = push_all_writes s.machine.history (map flushed_cell s.queue) s.log.rows
+redirect_writes None s = []
+redirect_writes (Some target) s = push_all_writes s.machine.history (map flushed_cell s.queue) s.log.rows
 
 unfoldable pub timeline_writes : State → List CellWrite
 timeline_writes s = push_all_writes s.machine.history (timeline_cells s) s.log.rows

@@ -1,6 +1,5 @@
 -- op.rs: one operation. Decisions read `core`; `info` is only moved, looked at, and shown.
-use Rattle.std.specs.Prelude.{ℕ, ◌+◌, ◌%◌, max, Bool, false, cond, List, [], ◌∷◌, eqb}
-use Rattle.std.proofs.Math.Option.{Option, none}
+use Rattle.std.specs.Prelude.{ℕ, ◌+◌, ◌%◌, max, Bool, false, cond, List, [], ◌∷◌, eqb, Option, None}
 use Rattle.laws.specs.Optional.{value_or}
 use Rattle.laws.specs.Texts.{Text, bytes, before}
 use Rattle.capability.specs.declared.PipelineInstructionClass.{PipelineInstructionClass}
@@ -67,11 +66,11 @@ with_cycles c o =
     op_of (core_of o.core.decoded o.core.row o.core.seq o.core.hazard c o.core.predicted_next) o.info
 
 abbrev pub no_info : Info
-no_info = info_of [] none none [] [] 0
+no_info = info_of [] None None [] [] 0
 
 -- What stands in a unit that holds none.
 abbrev pub no_op : Op
-no_op = op_of (core_of (decoded 0 0 Unknown false false) 0 0 none 0 0) no_info
+no_op = op_of (core_of (decoded 0 0 Unknown false false) 0 0 None 0 0) no_info
 
 -- PipelineOp::sequential_address: a length of 0 counts as 1; the sum wraps at 2^64.
 unfoldable pub sequential_address : Option ℕ → Decoded → ℕ

@@ -1,8 +1,7 @@
 -- registers.rs: the names met so far, numbered from 0 in order of first look, and who owes each register a value.
-use Rattle.std.specs.Prelude.{ℕ, suc, cond, List, [], ◌∷◌, eqb}
-use Rattle.std.proofs.Math.Option.{Option, none, some}
+use Rattle.std.specs.Prelude.{ℕ, suc, cond, List, [], ◌∷◌, eqb, Option, None, Some, slice_get}
 use Rattle.laws.specs.Optional.{value_or, when_some}
-use Rattle.laws.specs.Lists.{nth, modify}
+use Rattle.laws.specs.Lists.{modify}
 use Rattle.laws.specs.Texts.{Text, bytes, same}
 use Rattle.model.specs.Op.{Info}
 
@@ -56,28 +55,28 @@ resolve ns i = resolve_names ns i.sources i.writes
 
 -- RegisterTable::get: the number of a name, if it has one.
 unfoldable pub get : List Text → Text → Option ℕ
-get [] a = none
-get (x ∷ xs) a = cond (same x a) (some 0) (when_some (get xs a) none (λ (n : ℕ). some (suc n)))
+get [] a = None
+get (x ∷ xs) a = cond (same x a) (Some 0) (when_some (get xs a) None (λ (n : ℕ). Some (suc n)))
 
 -- RegisterTable::name: "?" where there is none.
 unfoldable pub name_of : List Text → ℕ → Text
-name_of ns r = value_or (bytes "?") (nth ns r)
+name_of ns r = value_or (bytes "?") (slice_get ns r)
 
 -- ── Claims: for each register the unit that will write it, if one is in flight ─
 
 -- A new name has none.
 unfoldable pub pad : List (Option ℕ) → List Text → List (Option ℕ)
 pad ps [] = ps
-pad [] (n ∷ ns) = none ∷ pad [] ns
+pad [] (n ∷ ns) = None ∷ pad [] ns
 pad (p ∷ ps) (n ∷ ns) = p ∷ pad ps ns
 
 -- RegisterTable::producer
 unfoldable pub producer_of : List (Option ℕ) → ℕ → Option ℕ
-producer_of ps r = value_or none (nth ps r)
+producer_of ps r = value_or None (slice_get ps r)
 
 -- RegisterTable::claim
 unfoldable pub claim : ℕ → List (Option ℕ) → ℕ → List (Option ℕ)
-claim unit ps r = modify r (λ (old : Option ℕ). some unit) ps
+claim unit ps r = modify r (λ (old : Option ℕ). Some unit) ps
 
 unfoldable pub claim_all : ℕ → List (Option ℕ) → List ℕ → List (Option ℕ)
 claim_all unit ps [] = ps
@@ -85,7 +84,7 @@ claim_all unit ps (r ∷ rs) = claim_all unit (claim unit ps r) rs
 
 -- RegisterTable::release: only if that unit still holds it.
 unfoldable pub release_held : ℕ → Option ℕ → Option ℕ
-release_held unit old = when_some old none (λ (u : ℕ). cond (eqb u unit) none (some u))
+release_held unit old = when_some old None (λ (u : ℕ). cond (eqb u unit) None (Some u))
 
 unfoldable pub release : ℕ → List (Option ℕ) → ℕ → List (Option ℕ)
 release unit ps r = modify r (release_held unit) ps
@@ -97,8 +96,8 @@ release_all unit ps (r ∷ rs) = release_all unit (release unit ps r) rs
 -- RegisterTable::outstanding: (register, unit) by rising number, counted from i.
 unfoldable pub outstanding : ℕ → List (Option ℕ) → List (ℕ × ℕ)
 outstanding i [] = []
-outstanding i (none ∷ ps) = outstanding (suc i) ps
-outstanding i (some u ∷ ps) = (i, u) ∷ outstanding (suc i) ps
+outstanding i (None ∷ ps) = outstanding (suc i) ps
+outstanding i (Some u ∷ ps) = (i, u) ∷ outstanding (suc i) ps
 
 -- All of these unfold where a line says `unfolding registers`.
 unfoldable pub registers : Unit {0}

@@ -1,8 +1,7 @@
 -- timeline.rs, and how scoreboard.rs writes it, as the Rust has them: rows that hold their cells, cells with the text of their label.
-use Rattle.std.specs.Prelude.{ℕ, suc, ◌+◌, Bool, cond, List, [], ◌∷◌, ◌++◌, map, eqb, ltb, length}
-use Rattle.std.proofs.Math.Option.{Option, none, some}
-use Rattle.laws.specs.Optional.{is_some, value_or, when_some}
-use Rattle.laws.specs.Lists.{nth, rest, keep}
+use Rattle.std.specs.Prelude.{ℕ, suc, ◌+◌, Bool, cond, List, [], ◌∷◌, ◌++◌, map, eqb, ltb, length, Option, None, Some, is_some, slice_get}
+use Rattle.laws.specs.Optional.{value_or, when_some}
+use Rattle.laws.specs.Lists.{rest, keep}
 use Rattle.laws.specs.Numbers.{saturating_add}
 use Rattle.laws.specs.Texts.{Text, bytes}
 use Rattle.capability.specs.declared.PipelineInstructionClass.{PipelineInstructionClass}
@@ -57,10 +56,10 @@ rust_cell_of l s r b = record { label = l; state = s; role = r; byte = b }
 
 -- SCOREBOARD_PHASES[i].name and .role
 unfoldable pub phase_name : ℕ → Text
-phase_name i = value_or [] (nth stage_names i)
+phase_name i = value_or [] (slice_get stage_names i)
 
 unfoldable pub phase_role : ℕ → PipelineStageRole
-phase_role i = value_or Other (nth stage_roles i)
+phase_role i = value_or Other (slice_get stage_roles i)
 
 -- fetched: the first cell of a row.
 unfoldable pub opening_cell : RustCell
@@ -149,13 +148,13 @@ rust_push_all (p ∷ ps) rows = rust_push_all ps (rust_push p.0 p.1 rows)
 
 -- Timeline::cell
 unfoldable pub rust_cell : List RustRow → ℕ → ℕ → Option RustCell
-rust_cell rows i c = when_some (nth rows i) none (λ (r : RustRow). nth r.cells c)
+rust_cell rows i c = when_some (slice_get rows i) None (λ (r : RustRow). slice_get r.cells c)
 
 -- ── The rows that each call leaves ──────────────────────────────────────────
 
 unfoldable pub rust_flushed : Option ℕ → State → List RustRow → List RustRow
-rust_flushed none s rows = rows
-rust_flushed (some target) s rows = rust_push_all (dropped_cells s.queue) rows
+rust_flushed None s rows = rows
+rust_flushed (Some target) s rows = rust_push_all (dropped_cells s.queue) rows
 
 unfoldable pub rust_advance : Option ℕ → State → List RustRow → List RustRow
 rust_advance r s rows =

@@ -1,6 +1,5 @@
 -- scoreboard.rs, `ScoreboardPipeline`: the engine, and a setter for each part.
-use Rattle.std.specs.Prelude.{ℕ, Bool, true, false, List, [], ◌∷◌, ◌++◌, map, eqb}
-use Rattle.std.proofs.Math.Option.{Option, none}
+use Rattle.std.specs.Prelude.{ℕ, Bool, true, false, List, [], ◌∷◌, ◌++◌, map, eqb, Option, None}
 use Rattle.laws.specs.Numbers.{saturating_add}
 use Rattle.laws.specs.Texts.{Text}
 use Rattle.capability.specs.declared.PipelineHazardKind.{PipelineHazardKind}
@@ -214,8 +213,8 @@ stall_all ts l = with_stats (count_stalls (map (λ (t : Trace). t.kind) ts) l.st
 -- ScoreboardPipeline::new
 unfoldable pub new : PipelineShape → ℕ → State
 new d entry =
-    state (machine_of d) (build_units 0 (machine_of d).specs) [] [] [] (marks false false) (offer_of none false)
-    (front_of false false false false false entry 0 0) (log_of no_stats [] [] none)
+    state (machine_of d) (build_units 0 (machine_of d).specs) [] [] [] (marks false false) (offer_of None false)
+    (front_of false false false false false entry 0 0) (log_of no_stats [] [] None)
 
 -- All of these unfold where a line says `unfolding engine`.
 unfoldable pub engine : Unit {0}

@@ -1,8 +1,6 @@
 -- timeline.rs, `Timeline`: a row for each fetch, a cell for each cycle that it was visible. The cells stand in lent memory:
 -- row id r uses slot r mod history, 200 bytes; its cell c, counted from 0 at opening, the slot's byte c mod 200.
-use Rattle.std.specs.Prelude.{ℕ, zero, suc, ◌+◌, ◌-◌, ◌*◌, ◌%◌, Bool, cond, List, [], ◌∷◌, ◌++◌, eqb, ltb, length, drop, replicate}
-use Rattle.std.proofs.Math.Option.{Option, none}
-use Rattle.laws.specs.Lists.{nth}
+use Rattle.std.specs.Prelude.{ℕ, zero, suc, ◌+◌, ◌-◌, ◌*◌, ◌%◌, Bool, cond, List, [], ◌∷◌, ◌++◌, eqb, ltb, length, drop, replicate, Option, None, slice_get}
 use Rattle.laws.specs.Numbers.{saturating_add}
 use Rattle.laws.specs.Texts.{Text}
 use Rattle.capability.specs.declared.PipelineInstructionClass.{PipelineInstructionClass}
@@ -58,7 +56,7 @@ next_place history r = cell_place history r r.count
 
 -- Timeline::cell, as the byte in the lent memory.
 unfoldable pub cell_at : ℕ → Row → List ℕ → ℕ → Option ℕ
-cell_at history r m c = cond (ltb c r.count) (nth m (cell_place history r c)) none
+cell_at history r m c = cond (ltb c r.count) (slice_get m (cell_place history r c)) None
 
 -- A write: a place, and the bytes set from there on.
 abbrev pub Write : Type 0

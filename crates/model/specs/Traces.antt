@@ -1,6 +1,5 @@
 -- timeline.rs, `Trace`: an entry of a cycle's wait list, and its text as scoreboard.rs formats it.
-use Rattle.std.specs.Prelude.{ℕ, ◌++◌}
-use Rattle.std.proofs.Math.Option.{Option}
+use Rattle.std.specs.Prelude.{ℕ, ◌++◌, Option}
 use Rattle.laws.specs.Optional.{value_or}
 use Rattle.laws.specs.Texts.{Text, bytes, hexadecimal}
 use Rattle.capability.specs.declared.PipelineHazardKind.{PipelineHazardKind}

@@ -1,9 +1,8 @@
 -- scoreboard.rs, `Unit`: a functional unit, the scoreboard row that tracks it, and what a cycle does to one unit alone.
 -- Rust's Option of an operation is the flag `busy` beside it: while a unit's result is on offer the flag is off and the operation stays.
-use Rattle.std.specs.Prelude.{ℕ, zero, suc, ◌-◌, Bool, true, false, cond, not, ◌&&◌, List, [], ◌∷◌, ◌++◌, eqb}
-use Rattle.std.proofs.Math.Option.{none, some}
+use Rattle.std.specs.Prelude.{ℕ, zero, suc, ◌-◌, Bool, true, false, cond, not, ◌&&◌, List, [], ◌∷◌, ◌++◌, eqb, None, Some, slice_get}
 use Rattle.laws.specs.Optional.{value_or}
-use Rattle.laws.specs.Lists.{nth, is_empty, keep}
+use Rattle.laws.specs.Lists.{is_empty, keep}
 use Rattle.laws.specs.Numbers.{max64}
 use Rattle.capability.specs.declared.PipelineInstructionClass.{PipelineInstructionClass}
 use Rattle.capability.specs.declared.PipelineInstructionClass.TheVariants.{Unknown}
@@ -83,7 +82,7 @@ unfoldable pub in_phase : Phase → FunctionalUnit → Bool
 in_phase p u = u.busy && eqb (phase_number u.phase) (phase_number p)
 
 unfoldable pub unit_at : List FunctionalUnit → ℕ → FunctionalUnit
-unit_at us i = value_or (idle_unit 0 0) (nth us i)
+unit_at us i = value_or (idle_unit 0 0) (slice_get us i)
 
 -- ── build_units ─────────────────────────────────────────────────────────────
 
@@ -99,10 +98,10 @@ build_units spec (k ∷ ks) = instances spec 0 k.capacity ++ build_units (suc sp
 -- ── What a cycle does to one unit ───────────────────────────────────────────
 
 unfoldable pub clear_hazard : FunctionalUnit → FunctionalUnit
-clear_hazard u = with_op (with_hazard none u.op) u
+clear_hazard u = with_op (with_hazard None u.op) u
 
 unfoldable pub mark_hazard : PipelineHazardKind → FunctionalUnit → FunctionalUnit
-mark_hazard h u = with_op (with_hazard (some h) u.op) u
+mark_hazard h u = with_op (with_hazard (Some h) u.op) u
 
 -- complete_write: no wait on unit i is left.
 unfoldable pub without_waits : ℕ → FunctionalUnit → FunctionalUnit
@@ -127,7 +126,7 @@ waits u = in_phase Wait u && not (is_empty u.pending)
 
 unfoldable pub read_one : FunctionalUnit → FunctionalUnit
 read_one u =
-    with_progress (with_hazard (cond (waits u) (some ReadAfterWrite) u.op.core.hazard) u.op)
+    with_progress (with_hazard (cond (waits u) (Some ReadAfterWrite) u.op.core.hazard) u.op)
     (cond (in_phase Wait u && is_empty u.pending) Read u.phase) u
 
 -- issue: the operation moves in, with its register numbers and its waits.

@@ -1,8 +1,8 @@
 -- scoreboard.rs, the impls PipelineInspect and PipelineDynamicInspect: what a host sees, in numbers. Texts are in Requests.
-use Rattle.std.specs.Prelude.{ℕ, zero, suc, ◌/◌, ◌%◌, Bool, true, false, cond, not, ◌&&◌, List, [], ◌∷◌, ◌++◌, map, eqb, ltb}
-use Rattle.std.proofs.Math.Option.{Option, none, some}
-use Rattle.laws.specs.Optional.{when_some, omap}
-use Rattle.laws.specs.Lists.{nth, head, any, count, keep, is_empty, elem}
+use Rattle.std.specs.Prelude.{ℕ, zero, suc, ◌/◌, ◌%◌, Bool, true, false, cond, not, ◌&&◌, List, [], ◌∷◌, ◌++◌, map, eqb, ltb, Option, None, Some, option_map, slice_get}
+use Rattle.laws.specs.Optional.{when_some}
+use Rattle.laws.specs.Lists.{head, count, keep, is_empty, elem}
+use Rattle.std.specs.List.{list_any}
 use Rattle.capability.specs.declared.PipelineInstructionClass.{PipelineInstructionClass}
 use Rattle.capability.specs.declared.PipelineHazardKind.{PipelineHazardKind}
 use Rattle.capability.specs.declared.PipelineTraceKind.{PipelineTraceKind}
@@ -96,11 +96,11 @@ status_view s =
 
 -- min_by_key(seq): the oldest unit that passes, the first of equals.
 unfoldable pub older : FunctionalUnit → Option FunctionalUnit → Option FunctionalUnit
-older u none = some u
-older u (some v) = cond (ltb (seq_of v) (seq_of u)) (some v) (some u)
+older u None = Some u
+older u (Some v) = cond (ltb (seq_of v) (seq_of u)) (Some v) (Some u)
 
 unfoldable pub oldest : (FunctionalUnit → Bool) → List FunctionalUnit → Option FunctionalUnit
-oldest p [] = none
+oldest p [] = None
 oldest p (u ∷ us) = cond (p u) (older u) (λ o. o) (oldest p us)
 
 -- SCOREBOARD_PHASES
@@ -113,17 +113,17 @@ pub record StageView : Type 0 where
   pub slot : Option SlotView
 
 unfoldable pub oldest_in : Phase → State → Option Op
-oldest_in p s = omap unit_op (oldest (in_phase p) s.units)
+oldest_in p s = option_map unit_op (oldest (in_phase p) s.units)
 
 -- The oldest occupant of each stage.
 unfoldable pub stage_ops : State → List (Option Op)
 stage_ops s = head s.queue ∷ oldest_in phase.Wait s ∷ oldest_in phase.Read s ∷ oldest_in phase.Execute s ∷ oldest_in phase.Write s ∷ []
 
 unfoldable pub stage_op : State → ℕ → Option Op
-stage_op s i = when_some (nth (stage_ops s) i) none (λ (o : Option Op). o)
+stage_op s i = when_some (slice_get (stage_ops s) i) None (λ (o : Option Op). o)
 
 unfoldable pub stage_view : State → ℕ → Option StageView
-stage_view s i = omap (λ (r : PipelineStageRole). record { role = r; slot = omap slot_view (stage_op s i) }) (nth stage_roles i)
+stage_view s i = option_map (λ (r : PipelineStageRole). record { role = r; slot = option_map slot_view (stage_op s i) }) (slice_get stage_roles i)
 
 -- PipelineEdge
 pub record Edge : Type 0 where
@@ -147,7 +147,7 @@ is_sequential e = eqb (edge_number e.kind) (edge_number Sequential)
 
 -- entry_stages: those that no sequential edge leads to.
 unfoldable pub entry_stages : List ℕ
-entry_stages = keep (λ (n : ℕ). not (any (λ (e : Edge). eqb e.to n && is_sequential e) edges)) stages
+entry_stages = keep (λ (n : ℕ). not (list_any (λ (e : Edge). eqb e.to n && is_sequential e) edges)) stages
 
 -- stage_order: breadth-first from the entry stages along sequential edges; what is not reached comes last. The fuel is more than it takes.
 unfoldable pub next_stages : ℕ → List ℕ
@@ -190,13 +190,13 @@ unit_view_of s i k =
     record {
       capacity = k.capacity;
       active = count (in_kind i) s.units;
-      first = omap slot_view (omap unit_op (working s i));
+      first = option_map slot_view (option_map unit_op (working s i));
       latency_class = shown_class (working s i) k;
       latency = latency s.machine.times (shown_class (working s i) k);
     }
 
 unfoldable pub unit_view : State → ℕ → Option UnitView
-unit_view s i = omap (unit_view_of s i) (nth s.machine.specs i)
+unit_view s i = option_map (unit_view_of s i) (slice_get s.machine.specs i)
 
 -- PipelineTraceView
 pub record TraceView : Type 0 where
@@ -251,11 +251,11 @@ cell_view b = record { label = b % 32; state = cell_state b; role = label_role (
 
 -- timeline_cell, from the lent memory.
 unfoldable pub cell_byte : State → List ℕ → ℕ → ℕ → Option ℕ
-cell_byte s m r c = when_some (nth s.log.rows r) none (λ (w : Row). cell_at s.machine.history w m c)
+cell_byte s m r c = when_some (slice_get s.log.rows r) None (λ (w : Row). cell_at s.machine.history w m c)
 
 -- Whether the row has such a cell.
 unfoldable pub cell_there : State → ℕ → ℕ → Bool
-cell_there s r c = when_some (nth s.log.rows r) false (λ (w : Row). ltb c w.count)
+cell_there s r c = when_some (slice_get s.log.rows r) false (λ (w : Row). ltb c w.count)
 
 -- ── Stations and claims ─────────────────────────────────────────────────────
 
@@ -266,11 +266,11 @@ pub record OperandView : Type 0 where
 
 -- The unit that owes a register, if one does.
 unfoldable pub owed : List (ℕ × ℕ) → ℕ → Option ℕ
-owed [] r = none
-owed (p ∷ ps) r = cond (eqb p.0 r) (some p.1) (owed ps r)
+owed [] r = None
+owed (p ∷ ps) r = cond (eqb p.0 r) (Some p.1) (owed ps r)
 
 unfoldable pub operand_view : FunctionalUnit → ℕ → Option OperandView
-operand_view u j = omap (λ (r : ℕ). record { register = r; producer = owed u.pending r }) (nth u.sources j)
+operand_view u j = option_map (λ (r : ℕ). record { register = r; producer = owed u.pending r }) (slice_get u.sources j)
 
 -- PipelineStationView
 pub record StationView : Type 0 where
@@ -291,14 +291,14 @@ entry_phase true phase.Execute e = Executing
 entry_phase true phase.Write e = Finished
 
 unfoldable pub station_op : FunctionalUnit → Option Op
-station_op u = cond u.busy (some u.op) none
+station_op u = cond u.busy (Some u.op) None
 
 unfoldable pub station_view : ℕ → FunctionalUnit → StationView
 station_view i u =
     record {
       unit = u.spec;
-      tag = cond u.busy (some i) none;
-      slot = omap slot_view (station_op u);
+      tag = cond u.busy (Some i) None;
+      slot = option_map slot_view (station_op u);
       phase = entry_phase u.busy u.phase (is_empty u.pending);
       operand_0 = operand_view u 0;
       operand_1 = operand_view u 1;

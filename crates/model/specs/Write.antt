@@ -1,8 +1,9 @@
 -- scoreboard.rs: the opening of a cycle, which tries the finished units and offers a result, and what may be done with the offer.
-use Rattle.std.specs.Prelude.{ℕ, suc, Bool, true, false, cond, not, ◌&&◌, ◌||◌, List, [], ◌∷◌, map, eqb, ltb}
-use Rattle.std.proofs.Math.Option.{Option, none, some}
-use Rattle.laws.specs.Optional.{or_else, when_some, omap}
-use Rattle.laws.specs.Lists.{any, modify, find_at, any_at, elem}
+use Rattle.std.specs.Prelude.{ℕ, suc, Bool, true, false, cond, not, ◌&&◌, ◌||◌, List, [], ◌∷◌, map, eqb, ltb, Option, None, Some, option_map}
+use Rattle.laws.specs.Optional.{when_some}
+use Rattle.std.specs.Option.{option_or}
+use Rattle.laws.specs.Lists.{modify, find_at, any_at, elem}
+use Rattle.std.specs.List.{list_any}
 use Rattle.laws.specs.Texts.{Text, bytes}
 use Rattle.capability.specs.declared.PipelineHazardKind.{PipelineHazardKind}
 use Rattle.capability.specs.declared.PipelineHazardKind.TheVariants.{FunctionalUnitBusy, WriteAfterRead}
@@ -39,7 +40,7 @@ use Rattle.model.specs.State.{
 unfoldable pub open_cycle : State → State
 open_cycle s =
     with_units (map clear_hazard s.units)
-    (with_queue (map (with_hazard none) s.queue)
+    (with_queue (map (with_hazard None) s.queue)
     (with_front (with_turn true false s.front) (with_log (with_stats (count_cycle s.log.stats) (with_traces [] s.log)) s)))
 
 -- Why a finished unit may not write: WAR with the register and its reader, memory order with the older access, or drain.
@@ -55,29 +56,29 @@ blocked_kind drain = FunctionalUnitBusy
 
 -- Unit j, another than i, is busy, reads register r, and does not wait for it.
 unfoldable pub reads : ℕ → ℕ → ℕ → FunctionalUnit → Bool
-reads i r j u = not (eqb j i) && u.busy && elem r u.sources && not (any (λ (p : ℕ × ℕ). eqb p.0 r) u.pending)
+reads i r j u = not (eqb j i) && u.busy && elem r u.sources && not (list_any (λ (p : ℕ × ℕ). eqb p.0 r) u.pending)
 
 unfoldable pub war_reader : List FunctionalUnit → ℕ → List ℕ → Option Blocked
-war_reader us i [] = none
-war_reader us i (r ∷ rs) = or_else (omap (war r) (find_at (reads i r) 0 us)) (war_reader us i rs)
+war_reader us i [] = None
+war_reader us i (r ∷ rs) = option_or (option_map (war r) (find_at (reads i r) 0 us)) (war_reader us i rs)
 
 unfoldable pub older_memory : ℕ → ℕ → ℕ → FunctionalUnit → Bool
 older_memory i n j u = not (eqb j i) && u.busy && is_memory u.class && ltb (seq_of u) n
 
 unfoldable pub memory_blocked : List FunctionalUnit → ℕ → Option Blocked
 memory_blocked us i =
-    cond (is_memory (unit_at us i).class) (omap memory (find_at (older_memory i (seq_of (unit_at us i))) 0 us)) none
+    cond (is_memory (unit_at us i).class) (option_map memory (find_at (older_memory i (seq_of (unit_at us i))) 0 us)) None
 
 unfoldable pub other_busy : ℕ → ℕ → FunctionalUnit → Bool
 other_busy i j u = not (eqb j i) && u.busy
 
 unfoldable pub drain_blocked : List FunctionalUnit → ℕ → Option Blocked
-drain_blocked us i = cond (is_system (unit_at us i).class && any_at (other_busy i) 0 us) (some drain) none
+drain_blocked us i = cond (is_system (unit_at us i).class && any_at (other_busy i) 0 us) (Some drain) None
 
 -- write_blocked: the first of the three that holds.
 unfoldable pub write_blocked : List FunctionalUnit → ℕ → Option Blocked
 write_blocked us i =
-    or_else (war_reader us i (unit_at us i).destinations) (or_else (memory_blocked us i) (drain_blocked us i))
+    option_or (war_reader us i (unit_at us i).destinations) (option_or (memory_blocked us i) (drain_blocked us i))
 
 -- The units in write phase, as (sequence number, index), oldest first.
 unfoldable pub insert : (ℕ × ℕ) → List (ℕ × ℕ) → List (ℕ × ℕ)
@@ -97,11 +98,11 @@ abbrev pub tried : List (ℕ × Blocked) → Option ℕ → Tried
 tried t f = record { turned_away = t; found = f }
 
 unfoldable pub try_one : ℕ → Option Blocked → Tried → Tried
-try_one i none t = tried [] (some i)
-try_one i (some b) t = tried ((i, b) ∷ t.turned_away) t.found
+try_one i None t = tried [] (Some i)
+try_one i (Some b) t = tried ((i, b) ∷ t.turned_away) t.found
 
 unfoldable pub try_writes : List FunctionalUnit → List (ℕ × ℕ) → Tried
-try_writes us [] = tried [] none
+try_writes us [] = tried [] None
 try_writes us (q ∷ qs) = try_one q.1 (write_blocked us q.1) (try_writes us qs)
 
 unfoldable pub writable_unit : List FunctionalUnit → Tried
@@ -113,8 +114,8 @@ mark_blocked (b ∷ bs) us = mark_blocked bs (modify b.0 (mark_hazard (blocked_k
 
 -- unit.op.take()
 unfoldable pub take_out : Option ℕ → List FunctionalUnit → List FunctionalUnit
-take_out none us = us
-take_out (some i) us = modify i (with_busy false) us
+take_out None us = us
+take_out (Some i) us = modify i (with_busy false) us
 
 unfoldable pub blocked_detail : List FunctionalUnit → List Text → ℕ → Blocked → Detail
 blocked_detail us ns i (war r j) = overwrites (mnemonic (unit_at us i).op) (name_of ns r) (mnemonic (unit_at us j).op)
@@ -136,7 +137,7 @@ start_cycle s = offer_found (writable_unit (open_cycle s).units) (open_cycle s)
 -- ── Between start and advance ───────────────────────────────────────────────
 
 unfoldable pub offered_op : State → Option Op
-offered_op s = omap (λ (i : ℕ). (unit_at s.units i).op) s.offer.writing
+offered_op s = option_map (λ (i : ℕ). (unit_at s.units i).op) s.offer.writing
 
 unfoldable pub offered_branch : State → Bool
 offered_branch s = when_some (offered_op s) false (λ (o : Op). o.core.decoded.branch)
@@ -146,19 +147,19 @@ retire s =
     with_offer (offer_of s.offer.writing true) (with_log (with_stats (count_retired (offered_branch s) s.log.stats) s.log) s)
 
 unfoldable pub put_back : Option ℕ → List FunctionalUnit → List FunctionalUnit
-put_back none us = us
-put_back (some i) us = modify i (with_busy true) us
+put_back None us = us
+put_back (Some i) us = modify i (with_busy true) us
 
 unfoldable pub retry : Text → State → State
 retry reason s =
     with_units (put_back s.offer.writing s.units)
-    (with_offer (offer_of none false) (with_log (with_status (some reason) s.log) s))
+    (with_offer (offer_of None false) (with_log (with_status (Some reason) s.log) s))
 
 -- resolve: where to go instead, if the front end ran down the wrong path.
 unfoldable pub resolve_branch : Option Op → ℕ → Option ℕ
-resolve_branch none actual = none
-resolve_branch (some o) actual =
-    cond (o.core.decoded.branch && not (eqb actual o.core.predicted_next)) (some actual) none
+resolve_branch None actual = None
+resolve_branch (Some o) actual =
+    cond (o.core.decoded.branch && not (eqb actual o.core.predicted_next)) (Some actual) None
 
 -- ── halt and fault ──────────────────────────────────────────────────────────
 
@@ -167,11 +168,11 @@ unfoldable pub abandon : State → State
 abandon s =
     with_units (map clear s.units)
     (with_queue []
-    (with_registers s.names (map (λ (p : Option ℕ). none) s.producer) (with_marks (marks false false) (with_offer (offer_of none false) s))))
+    (with_registers s.names (map (λ (p : Option ℕ). None) s.producer) (with_marks (marks false false) (with_offer (offer_of None false) s))))
 
 unfoldable pub stopped : Bool → Bool → Text → State → State
 stopped h f note s =
-    with_log (with_status (some note) s.log)
+    with_log (with_status (Some note) s.log)
     (with_front (with_stopped (h || s.front.halted) (f || s.front.faulted) (with_turn s.front.in_cycle false s.front)) (abandon s))
 
 unfoldable pub halt : State → State

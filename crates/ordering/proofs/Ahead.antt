@@ -3,13 +3,13 @@ use Prim.Native.Nat.{ℕ, ◌-◌, ◌≤◌, ◌<◌}
 use native.Mathlib.Omega.{arith}
 use mathlib.Core.Path.{◌≡◌, refl, sym, ◌∙◌, ap, subst}
 use mathlib.Core.Bool.{Bool, true, false, cond, true≢false}
-use mathlib.Core.Option.{some}
+use Rattle.std.specs.Prelude.{Some, slice_get}
 use mathlib.Core.List.{List, [], map}
 use mathlib.Core.Logic.{◌⊎◌, inl, inr}
 use lib.Dec.{eqb}
 use lib.ListN.{length}
 use borrow.Author.Tests.{eqb-false, eqb-true}
-use Rattle.laws.specs.Lists.{modify, nth}
+use Rattle.laws.specs.Lists.{modify}
 use Rattle.laws.proofs.Choices.{some_inj}
 use Rattle.laws.proofs.Maps.{length-of, nth-map}
 use Rattle.laws.proofs.Tests.{lt-or-ge}
@@ -25,15 +25,15 @@ use Rattle.ending.proofs.Oldest.{Oldest}
 
 -- What stands in a list with one element changed.
 pub modify-back
-    : {A : Type 0} (f : A → A) (k : ℕ) (xs : List A) (i : ℕ) (a : A) → nth (modify k f xs) i ≡ some a
-    → ((x : A) × (nth xs i ≡ some x) × (a ≡ f x)) ⊎ (nth xs i ≡ some a)
+    : {A : Type 0} (f : A → A) (k : ℕ) (xs : List A) (i : ℕ) (a : A) → slice_get (modify k f xs) i ≡ Some a
+    → ((x : A) × (slice_get xs i ≡ Some x) × (a ≡ f x)) ⊎ (slice_get xs i ≡ Some a)
 modify-back {A} f k xs i a e = go (eqb i k) refl
   where
-    go : (b : Bool) → eqb i k ≡ b → ((x : A) × (nth xs i ≡ some x) × (a ≡ f x)) ⊎ (nth xs i ≡ some a)
+    go : (b : Bool) → eqb i k ≡ b → ((x : A) × (slice_get xs i ≡ Some x) × (a ≡ f x)) ⊎ (slice_get xs i ≡ Some a)
     go true t =
         let q = eqb-true i k t in
-        let w = omap-back f (nth xs k) a (sym (nth-same f xs k) ∙ ap (nth (modify k f xs)) (sym q) ∙ e) in
-        inl (w.0, ap (nth xs) q ∙ w.1, sym w.2)
+        let w = omap-back f (slice_get xs k) a (sym (nth-same f xs k) ∙ ap (slice_get (modify k f xs)) (sym q) ∙ e) in
+        inl (w.0, ap (slice_get xs) q ∙ w.1, sym w.2)
     go false t = inr (sym (nth-other f xs k i (eqb-false i k t)) ∙ e)
 
 -- ── The record ──────────────────────────────────────────────────────────────
@@ -52,15 +52,15 @@ Quick c o = is_memory c ≡ true → o.core.cycles_left ≤ 1
 
 pub record Ahead (us : List FunctionalUnit) : Type 0 where
   pub two : length us ≡ 2
-  pub quick : (i : ℕ) (u : FunctionalUnit) → nth us i ≡ some u → Quick u.class u.op
+  pub quick : (i : ℕ) (u : FunctionalUnit) → slice_get us i ≡ Some u → Quick u.class u.op
   pub ahead
-      : (i j : ℕ) (u v : FunctionalUnit) → nth us i ≡ some u → nth us j ≡ some v → Access u → Access v → Older u v
+      : (i j : ℕ) (u v : FunctionalUnit) → slice_get us i ≡ Some u → slice_get us j ≡ Some v → Access u → Access v → Older u v
       → unit-work u < unit-work v
 
 -- Nothing holds the older of two up.
 abbrev pub FreeToGo : List FunctionalUnit → Type 0
 FreeToGo us =
-    (i j : ℕ) (u v : FunctionalUnit) → nth us i ≡ some u → nth us j ≡ some v → Access u → Access v → Older u v
+    (i j : ℕ) (u v : FunctionalUnit) → slice_get us i ≡ Some u → slice_get us j ≡ Some v → Access u → Access v → Older u v
     → (u.pending ≡ []) × (u.phase ≡ Write → ⊥)
 
 -- ── Two units ───────────────────────────────────────────────────────────────
@@ -68,7 +68,7 @@ FreeToGo us =
 module _ (us : List FunctionalUnit) (two : length us ≡ 2) where
   -- Of two different units any third is one.
   third
-      : (i j k : ℕ) (u v w : FunctionalUnit) → nth us i ≡ some u → nth us j ≡ some v → nth us k ≡ some w → (i ≡ j → ⊥) → (k ≡ i) ⊎ (k ≡ j)
+      : (i j k : ℕ) (u v w : FunctionalUnit) → slice_get us i ≡ Some u → slice_get us j ≡ Some v → slice_get us k ≡ Some w → (i ≡ j → ⊥) → (k ≡ i) ⊎ (k ≡ j)
   third i j k u v w a b c n =
       at i j k (omega (arith, two, nth-short us i u a)) (omega (arith, two, nth-short us j v b)) (omega (arith, two, nth-short us k w c)) n
     where
@@ -82,15 +82,15 @@ module _ (us : List FunctionalUnit) (two : length us ≡ 2) where
           by (inr x) (inl y) (inr z) = inl (omega arith)
           by (inr x) (inr y) z = absurd (n (omega arith))
 
-  same : (k m : ℕ) (w x : FunctionalUnit) → nth us k ≡ some w → nth us m ≡ some x → k ≡ m → w.op.core.seq ≡ x.op.core.seq
-  same k m w x c d e = ap (λ (y : FunctionalUnit). y.op.core.seq) (some_inj w x (sym c ∙ ap (nth us) e ∙ d))
+  same : (k m : ℕ) (w x : FunctionalUnit) → slice_get us k ≡ Some w → slice_get us m ≡ Some x → k ≡ m → w.op.core.seq ≡ x.op.core.seq
+  same k m w x c d e = ap (λ (y : FunctionalUnit). y.op.core.seq) (some_inj w x (sym c ∙ ap (slice_get us) e ∙ d))
 
-  apart : (i j : ℕ) (u v : FunctionalUnit) → nth us i ≡ some u → nth us j ≡ some v → Older u v → i ≡ j → ⊥
+  apart : (i j : ℕ) (u v : FunctionalUnit) → slice_get us i ≡ Some u → slice_get us j ≡ Some v → Older u v → i ≡ j → ⊥
   apart i j u v a b l e = omega (arith, same i j u v a b e, l)
 
   -- The older of two is the oldest.
   pub older-oldest
-      : (i j : ℕ) (u v : FunctionalUnit) → nth us i ≡ some u → nth us j ≡ some v → u.busy ≡ true → Older u v → Oldest us i u
+      : (i j : ℕ) (u v : FunctionalUnit) → slice_get us i ≡ Some u → slice_get us j ≡ Some v → u.busy ≡ true → Older u v → Oldest us i u
   older-oldest i j u v a b t l =
       record {
         at = a;
@@ -98,33 +98,33 @@ module _ (us : List FunctionalUnit) (two : length us ≡ 2) where
         least = λ k w c x. go k w c (third i j k u v w a b c (apart i j u v a b l));
       }
     where
-      go : (k : ℕ) (w : FunctionalUnit) → nth us k ≡ some w → (k ≡ i) ⊎ (k ≡ j) → u.op.core.seq ≤ w.op.core.seq
+      go : (k : ℕ) (w : FunctionalUnit) → slice_get us k ≡ Some w → (k ≡ i) ⊎ (k ≡ j) → u.op.core.seq ≤ w.op.core.seq
       go k w c (inl e) = omega (arith, same k i w u c a e)
       go k w c (inr e) = omega (arith, same k j w v c b e, l)
 
   -- With one of the two free a busy unit is the oldest, and there is no pair.
-  module _ (k : ℕ) (w : FunctionalUnit) (c : nth us k ≡ some w) (f : w.busy ≡ false) where
-    not-it : (i : ℕ) (u : FunctionalUnit) → nth us i ≡ some u → u.busy ≡ true → k ≡ i → ⊥
+  module _ (k : ℕ) (w : FunctionalUnit) (c : slice_get us k ≡ Some w) (f : w.busy ≡ false) where
+    not-it : (i : ℕ) (u : FunctionalUnit) → slice_get us i ≡ Some u → u.busy ≡ true → k ≡ i → ⊥
     not-it i u a t e =
-        true≢false (sym t ∙ ap (λ (x : FunctionalUnit). x.busy) (some_inj u w (sym a ∙ ap (nth us) (sym e) ∙ c)) ∙ f)
+        true≢false (sym t ∙ ap (λ (x : FunctionalUnit). x.busy) (some_inj u w (sym a ∙ ap (slice_get us) (sym e) ∙ c)) ∙ f)
 
-    pub busy-oldest : (i : ℕ) (u : FunctionalUnit) → nth us i ≡ some u → u.busy ≡ true → Oldest us i u
+    pub busy-oldest : (i : ℕ) (u : FunctionalUnit) → slice_get us i ≡ Some u → u.busy ≡ true → Oldest us i u
     busy-oldest i u a t =
         record { at = a; busy = t; least = λ j v b x. go j v b x (third k i j w u v c a b (not-it i u a t)) }
       where
-        go : (j : ℕ) (v : FunctionalUnit) → nth us j ≡ some v → v.busy ≡ true → (j ≡ k) ⊎ (j ≡ i) → u.op.core.seq ≤ v.op.core.seq
+        go : (j : ℕ) (v : FunctionalUnit) → slice_get us j ≡ Some v → v.busy ≡ true → (j ≡ k) ⊎ (j ≡ i) → u.op.core.seq ≤ v.op.core.seq
         go j v b x (inl e) = absurd (not-it j v b x (sym e))
         go j v b x (inr e) = omega (arith, same j i v u b a e)
 
     no-pair
-        : (i j : ℕ) (u v : FunctionalUnit) → nth us i ≡ some u → nth us j ≡ some v → u.busy ≡ true → v.busy ≡ true → Older u v → ⊥
+        : (i j : ℕ) (u v : FunctionalUnit) → slice_get us i ≡ Some u → slice_get us j ≡ Some v → u.busy ≡ true → v.busy ≡ true → Older u v → ⊥
     no-pair i j u v a b s t l = go (third i j k u v w a b c (apart i j u v a b l))
       where
         go : (k ≡ i) ⊎ (k ≡ j) → ⊥
         go (inl e) = not-it i u a s e
         go (inr e) = not-it j v b t e
 
-    pub free-ahead : ((i : ℕ) (u : FunctionalUnit) → nth us i ≡ some u → Quick u.class u.op) → Ahead us
+    pub free-ahead : ((i : ℕ) (u : FunctionalUnit) → slice_get us i ≡ Some u → Quick u.class u.op) → Ahead us
     free-ahead q =
         record {
           two = two;
@@ -166,7 +166,7 @@ ahead-as us vs h a =
           omega (arith, b, work-of w.0 u w.2, work-of z.0 v z.2);
     }
   where
-    there : (i : ℕ) (u : FunctionalUnit) → nth us i ≡ some u → (v : FunctionalUnit) × (nth vs i ≡ some v) × (part v ≡ part u)
+    there : (i : ℕ) (u : FunctionalUnit) → slice_get us i ≡ Some u → (v : FunctionalUnit) × (slice_get vs i ≡ Some v) × (part v ≡ part u)
     there i u e = nth-image part vs us i u (sym h) e
 
     access : (u v : FunctionalUnit) → part u ≡ part v → Access v → Access u
@@ -179,9 +179,9 @@ ahead-as us vs h a =
 -- ── Execute, read and begin ─────────────────────────────────────────────────
 
 pub three_back
-    : (us : List FunctionalUnit) (i : ℕ) (w : FunctionalUnit) → nth (map three us) i ≡ some w
-    → (u : FunctionalUnit) × (nth us i ≡ some u) × (three u ≡ w)
-three_back us i w e = omap-back three (nth us i) w (sym (nth-map three us i) ∙ e)
+    : (us : List FunctionalUnit) (i : ℕ) (w : FunctionalUnit) → slice_get (map three us) i ≡ Some w
+    → (u : FunctionalUnit) × (slice_get us i ≡ Some u) × (three u ≡ w)
+three_back us i w e = omap-back three (slice_get us i) w (sym (nth-map three us i) ∙ e)
 
 three-quick : (u : FunctionalUnit) → (three u).op.core.cycles_left ≤ u.op.core.cycles_left
 unfolding units

@@ -2,12 +2,11 @@
 use Prim.Native.Nat.{ℕ, ◌≤◌, ◌<◌}
 use mathlib.Core.Path.{◌≡◌, refl, sym, ◌∙◌, ap, subst}
 use mathlib.Core.Bool.{Bool, true, false, ◌||◌, false≢true}
-use mathlib.Core.Option.{Option, none, some}
+use Rattle.std.specs.Prelude.{Option, None, Some, slice_get, option_map}
 use mathlib.Core.List.{List, ◌∷◌, map}
 use mathlib.Core.Logic.{◌⊎◌, inl, inr}
 use lib.ListN.{length}
-use Rattle.laws.specs.Lists.{All, modify, nth}
-use Rattle.laws.specs.Optional.{omap}
+use Rattle.laws.specs.Lists.{All, modify}
 use Rattle.laws.proofs.Choices.{none-some}
 use Rattle.laws.proofs.Maps.{length-of, nth-map}
 use Rattle.capability.specs.Numbers.{numbers}
@@ -44,23 +43,23 @@ use Rattle.ordering.proofs.Orderly.{Orderly, QuickOp, Room, before-units, orderl
 abbrev completed : ℕ → List FunctionalUnit → List FunctionalUnit
 completed i us = map (without_waits i) (modify i clear (modify i (with_busy false) us))
 
-completed-quick : (us : List FunctionalUnit) → Ahead us → (i k : ℕ) (u : FunctionalUnit) → nth (completed i us) k ≡ some u → Quick u.class u.op
+completed-quick : (us : List FunctionalUnit) → Ahead us → (i k : ℕ) (u : FunctionalUnit) → slice_get (completed i us) k ≡ Some u → Quick u.class u.op
 unfolding units config numbers
 completed-quick us a i k u e =
-    let b = omap-back (without_waits i) (nth (modify i clear (modify i (with_busy false) us)) k) u
+    let b = omap-back (without_waits i) (slice_get (modify i clear (modify i (with_busy false) us)) k) u
     (sym (nth-map (without_waits i) (modify i clear (modify i (with_busy false) us)) k) ∙ e) in
     subst (λ (x : FunctionalUnit). Quick x.class x.op) b.2 (cleared-or b.0 (modify-back clear i (modify i (with_busy false) us) k b.0 b.1))
   where
     blank : (v : FunctionalUnit) → Quick (clear v).class (clear v).op
     blank v m = absurd (false≢true m)
 
-    taken-or : (v : FunctionalUnit) → ((x : FunctionalUnit) × (nth us k ≡ some x) × (v ≡ with_busy false x)) ⊎ (nth us k ≡ some v) → Quick v.class v.op
+    taken-or : (v : FunctionalUnit) → ((x : FunctionalUnit) × (slice_get us k ≡ Some x) × (v ≡ with_busy false x)) ⊎ (slice_get us k ≡ Some v) → Quick v.class v.op
     taken-or v (inl (x, n, q)) = subst (λ (y : FunctionalUnit). Quick y.class y.op) (sym q) (a.quick k x n)
     taken-or v (inr n) = a.quick k v n
 
     cleared-or
         : (v : FunctionalUnit)
-        → ((x : FunctionalUnit) × (nth (modify i (with_busy false) us) k ≡ some x) × (v ≡ clear x)) ⊎ (nth (modify i (with_busy false) us) k ≡ some v)
+        → ((x : FunctionalUnit) × (slice_get (modify i (with_busy false) us) k ≡ Some x) × (v ≡ clear x)) ⊎ (slice_get (modify i (with_busy false) us) k ≡ Some v)
         → Quick v.class v.op
     cleared-or v (inl (x, n, q)) = subst (λ (y : FunctionalUnit). Quick y.class y.op) (sym q) (blank x)
     cleared-or v (inr n) = taken-or v (modify-back (with_busy false) i us k v n)
@@ -69,7 +68,7 @@ completed-quick us a i k u e =
 abbrev Going : List FunctionalUnit → Type 0
 Going us = Ahead us × FreeToGo us
 
-going-completed : (us : List FunctionalUnit) → Ahead us → (i : ℕ) (u : FunctionalUnit) → nth us i ≡ some u → Going (completed i us)
+going-completed : (us : List FunctionalUnit) → Ahead us → (i : ℕ) (u : FunctionalUnit) → slice_get us i ≡ Some u → Going (completed i us)
 unfolding units
 going-completed us a i u e =
     (free-ahead (completed i us) two i gone there refl (completed-quick us a i), free-to-go (completed i us) two i gone there refl)
@@ -82,11 +81,11 @@ going-completed us a i u e =
         length-of (without_waits i) (modify i clear (modify i (with_busy false) us)) ∙ length-modify clear i (modify i (with_busy false) us)
         ∙ length-modify (with_busy false) i us ∙ a.two
 
-    there : nth (completed i us) i ≡ some gone
+    there : slice_get (completed i us) i ≡ Some gone
     there =
         nth-map (without_waits i) (modify i clear (modify i (with_busy false) us)) i
-        ∙ ap (omap (without_waits i))
-        (nth-same clear (modify i (with_busy false) us) i ∙ ap (omap clear) (nth-same (with_busy false) us i ∙ ap (omap (with_busy false)) e))
+        ∙ ap (option_map (without_waits i))
+        (nth-same clear (modify i (with_busy false) us) i ∙ ap (option_map clear) (nth-same (with_busy false) us i ∙ ap (option_map (with_busy false)) e))
 
 -- ── Nothing is completed ────────────────────────────────────────────────────
 
@@ -123,11 +122,11 @@ module _ (s : State) (h : Invariant s) (out : s.front.in_cycle ≡ false) (o : O
   ahead-marked =
       ahead-as (marked s) (cleared s) (marked-same part (λ x u. refl) (writable_unit (cleared s)).turned_away (cleared s)) ahead-cleared
 
-  no_offer : s.offer.writing ≡ none
+  no_offer : s.offer.writing ≡ None
   no_offer = outside s h out
 
   -- No offer: the older of two waits for nothing, and is not finished.
-  free-units : found s ≡ none → FreeToGo s.units
+  free-units : found s ≡ None → FreeToGo s.units
   unfolding writing
   free-units e i j u v a b x y l =
       let q = older-oldest s.units o.units.two i j u v a b x.busy l in
@@ -141,7 +140,7 @@ module _ (s : State) (h : Invariant s) (out : s.front.in_cycle ≡ false) (o : O
           → u.op.core.seq ≤ v.op.core.seq
       least i u q j v k = q.least j v k.there (holds-busy s no_offer j v k)
 
-  free-marked : found s ≡ none → FreeToGo (marked s)
+  free-marked : found s ≡ None → FreeToGo (marked s)
   unfolding units
   free-marked e =
       free-as (marked s) s.units
@@ -155,8 +154,8 @@ module _ (s : State) (h : Invariant s) (out : s.front.in_cycle ≡ false) (o : O
   going-closed = go (found s) refl
     where
       go : (f : Option ℕ) → found s ≡ f → Going (closed halfway).units
-      go none e = subst Going (sym (closed-marked s h out e)) (ahead-marked, free-marked e)
-      go (some i) e =
+      go None e = subst Going (sym (closed-marked s h out e)) (ahead-marked, free-marked e)
+      go (Some i) e =
           let u = still-finished s i e in
           subst Going (sym (closed-found s h out i e)) (going-completed (marked s) ahead-marked i u.0 u.1)
 
@@ -168,8 +167,8 @@ module _ (s : State) (h : Invariant s) (out : s.front.in_cycle ≡ false) (o : O
 
   settled-traces : (w : Option ℕ) (t : State) → (settled w t).log.traces ≡ t.log.traces
   unfolding settled writing
-  settled-traces none t = refl
-  settled-traces (some i) t = refl
+  settled-traces None t = refl
+  settled-traces (Some i) t = refl
 
   pub retire-waits : NoneOrders halfway.log.traces
   retire-waits = subst NoneOrders (sym (settled-traces (start_cycle s).offer.writing (start_cycle s))) start-waits
@@ -181,7 +180,7 @@ module _ (s : State) (h : Invariant s) (out : s.front.in_cycle ≡ false) (o : O
   unfolding writing
   closed-quick =
       subst (All QuickOp) (sym (closed-queue halfway ∙ (settled_same (start_cycle s).offer.writing (start_cycle s)).queue))
-      (all_map QuickOp QuickOp (with_hazard none) (λ o q. q) s.queue o.queue)
+      (all_map QuickOp QuickOp (with_hazard None) (λ o q. q) s.queue o.queue)
 
   -- ── The advance ─────────────────────────────────────────────────────────────
 
@@ -195,7 +194,7 @@ module _ (s : State) (h : Invariant s) (out : s.front.in_cycle ≡ false) (o : O
       t = before s h out
 
       younger
-          : (o : Op) (rest : List Op) → t.queue ≡ o ∷ rest → (i : ℕ) (u : FunctionalUnit) → nth t.units i ≡ some u → u.busy ≡ true
+          : (o : Op) (rest : List Op) → t.queue ≡ o ∷ rest → (i : ℕ) (u : FunctionalUnit) → slice_get t.units i ≡ Some u → u.busy ≡ true
           → u.op.core.seq < o.core.seq
       younger o rest q i u e b =
           let w = t.offer.writing in
@@ -203,20 +202,20 @@ module _ (s : State) (h : Invariant s) (out : s.front.in_cycle ≡ false) (o : O
           subst (λ (x : List Op). u.op.core.seq < front_number x t.front.next_seq) q ((unoffered s h out).core.young i (entry u) held)
 
       consistent
-          : Consistent (λ j. entry_at none j (nth t.units j)) (producer_of t.producer) t.marks.branch t.marks.system
+          : Consistent (λ j. entry_at None j (slice_get t.units j)) (producer_of t.producer) t.marks.branch t.marks.system
           (front_number t.queue t.front.next_seq)
       consistent =
           subst
           (λ (w : Option ℕ).
-          Consistent (λ j. entry_at w j (nth t.units j)) (producer_of t.producer) t.marks.branch t.marks.system
+          Consistent (λ j. entry_at w j (slice_get t.units j)) (producer_of t.producer) t.marks.branch t.marks.system
           (front_number t.queue t.front.next_seq))
           (unoffered s h out).no_offer (unoffered s h out).core
 
       begun
-          : (k : ℕ) (f : FunctionalUnit) → nth t.units k ≡ some f → f.busy ≡ false → (i : ℕ) (u : FunctionalUnit)
-          → nth t.units i ≡ some u → u.busy ≡ true → u.phase ≡ Wait → ⊥
+          : (k : ℕ) (f : FunctionalUnit) → slice_get t.units k ≡ Some f → f.busy ≡ false → (i : ℕ) (u : FunctionalUnit)
+          → slice_get t.units i ≡ Some u → u.busy ≡ true → u.phase ≡ Wait → ⊥
       begun k f c n i u e b =
-          waits-no-more (closed halfway).units i u (sym (ap (λ (us : List FunctionalUnit). nth us i) (before-units (closed halfway))) ∙ e) b
+          waits-no-more (closed halfway).units i u (sym (ap (λ (us : List FunctionalUnit). slice_get us i) (before-units (closed halfway))) ∙ e) b
           (oldest-unwaiting t.units (producer_of t.producer) t.marks.branch t.marks.system
           (front_number t.queue t.front.next_seq) consistent i u (busy-oldest t.units ready.units.two k f c n i u e b))
 

@@ -3,9 +3,9 @@ use Prim.Native.Nat.{ℕ, ◌≤◌, ◌<◌}
 use native.Mathlib.Omega.{arith}
 use mathlib.Core.Path.{◌≡◌, refl, sym, subst}
 use mathlib.Core.Bool.{Bool, true, false, false≢true}
-use mathlib.Core.Option.{Option, none, some}
+use Rattle.std.specs.Prelude.{Option, None, Some, slice_get}
 use mathlib.Core.List.{List, [], ◌∷◌, map}
-use Rattle.laws.specs.Lists.{All, keep, nth}
+use Rattle.laws.specs.Lists.{All, keep}
 use Rattle.laws.specs.Texts.{Text}
 use Rattle.capability.specs.declared.PipelineHazardKind.{PipelineHazardKind}
 use Rattle.capability.specs.declared.PipelineHazardKind.TheVariants.{BranchFlush, FunctionalUnitBusy, WriteAfterWrite}
@@ -50,12 +50,12 @@ unfolding issuing
 none-wait us ns [] = tt
 none-wait us ns (v ∷ vs) = (refl, none-wait us ns vs)
 
-pub before-units : (s : State) → (before_issue none s).units ≡ map three s.units
+pub before-units : (s : State) → (before_issue None s).units ≡ map three s.units
 unfolding scoreboard issuing
 before-units s = map-three s.units
 
 pub orderly-before
-    : (s : State) → Ahead (map three s.units) → All QuickOp s.queue → NoneOrders s.log.traces → Orderly (before_issue none s)
+    : (s : State) → Ahead (map three s.units) → All QuickOp s.queue → NoneOrders s.log.traces → Orderly (before_issue None s)
 unfolding scoreboard issuing stall_all
 orderly-before s a q w =
     record {
@@ -74,11 +74,11 @@ orderly-before s a q w =
 -- What an issue needs: the units hold older operations than the queue, and where one is free, the other waits for no register.
 pub record Room (s : State) : Type 0 where
   pub younger
-      : (o : Op) (rest : List Op) → s.queue ≡ o ∷ rest → (i : ℕ) (u : FunctionalUnit) → nth s.units i ≡ some u → u.busy ≡ true
+      : (o : Op) (rest : List Op) → s.queue ≡ o ∷ rest → (i : ℕ) (u : FunctionalUnit) → slice_get s.units i ≡ Some u → u.busy ≡ true
       → u.op.core.seq < o.core.seq
   pub begun
-      : (k : ℕ) (f : FunctionalUnit) → nth s.units k ≡ some f → f.busy ≡ false → (i : ℕ) (u : FunctionalUnit)
-      → nth s.units i ≡ some u → u.busy ≡ true → u.phase ≡ Wait → ⊥
+      : (k : ℕ) (f : FunctionalUnit) → slice_get s.units k ≡ Some f → f.busy ≡ false → (i : ℕ) (u : FunctionalUnit)
+      → slice_get s.units i ≡ Some u → u.busy ≡ true → u.phase ≡ Wait → ⊥
 
 orderly-blocked
     : (x : PipelineHazardKind) (d : Detail) (s : State) → orders_memory d ≡ false → Orderly s → Orderly (block_issue x d s)
@@ -86,7 +86,7 @@ unfolding issuing stall_all
 orderly-blocked x d s n h =
     record {
       units = h.units;
-      queue = all-modify QuickOp 0 (with_hazard (some x)) (λ o q. q) s.queue h.queue;
+      queue = all-modify QuickOp 0 (with_hazard (Some x)) (λ o q. q) s.queue h.queue;
       waits = all_append OtherWait s.log.traces _ h.waits (n, tt);
     }
 
@@ -94,9 +94,9 @@ orderly-to
     : (o : Op) (rest : List Op) (r w : List ℕ) (t f : Option ℕ) (s : State) → s.queue ≡ o ∷ rest
     → free_unit s.machine.specs s.units o.core.decoded.class ≡ f → Room s → Orderly s → Orderly (issue_to o rest r w t f s)
 unfolding issuing
-orderly-to o rest r w (some x) f s q e m h = orderly-blocked WriteAfterWrite _ s refl h
-orderly-to o rest r w none none s q e m h = orderly-blocked FunctionalUnitBusy _ s refl h
-orderly-to o rest r w none (some k) s q e m h =
+orderly-to o rest r w (Some x) f s q e m h = orderly-blocked WriteAfterWrite _ s refl h
+orderly-to o rest r w None None s q e m h = orderly-blocked FunctionalUnitBusy _ s refl h
+orderly-to o rest r w None (Some k) s q e m h =
     let v = free-found s.machine.specs s.units o.core.decoded.class k e in
     let c : All QuickOp (o ∷ rest) = subst (All QuickOp) q h.queue in
     record {

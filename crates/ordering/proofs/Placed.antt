@@ -3,11 +3,11 @@ use Prim.Native.Nat.{ℕ, ◌+◌, ◌-◌, ◌≤◌, ◌<◌}
 use native.Mathlib.Omega.{arith}
 use mathlib.Core.Path.{◌≡◌, refl, sym, ◌∙◌, ap, ap₂, subst}
 use mathlib.Core.Bool.{Bool, true, cond, ◌&&◌}
-use mathlib.Core.Option.{some}
+use Rattle.std.specs.Prelude.{Some, slice_get}
 use mathlib.Core.List.{List, [], map}
 use mathlib.Core.Logic.{◌⊎◌, inl, inr}
 use lib.Dec.{eqb}
-use Rattle.laws.specs.Lists.{is_empty, modify, nth}
+use Rattle.laws.specs.Lists.{is_empty, modify}
 use Rattle.capability.specs.Numbers.{numbers, phase_number}
 use Rattle.capability.specs.declared.Phase.{Phase}
 use Rattle.capability.specs.declared.Phase.TheVariants.{Execute, Read, Wait, Write}
@@ -46,7 +46,7 @@ read-on u b w p = go u.phase (sym (ap₂ (λ (x : Bool) (y : List (ℕ × ℕ)).
     go Write e = let n = ap phase_number e in omega arith
 
 pub waits-no-more
-    : (us : List FunctionalUnit) (i : ℕ) (u : FunctionalUnit) → nth (map three us) i ≡ some u → u.busy ≡ true → u.pending ≡ []
+    : (us : List FunctionalUnit) (i : ℕ) (u : FunctionalUnit) → slice_get (map three us) i ≡ Some u → u.busy ≡ true → u.pending ≡ []
     → u.phase ≡ Wait → ⊥
 waits-no-more us i u e =
     let t = three_back us i u e in
@@ -60,8 +60,8 @@ module _
     (a : Ahead us)
     (k : ℕ)
     (quick : Quick o.core.decoded.class o)
-    (younger : (i : ℕ) (u : FunctionalUnit) → nth us i ≡ some u → u.busy ≡ true → u.op.core.seq < o.core.seq)
-    (begun : (i : ℕ) (u : FunctionalUnit) → nth us i ≡ some u → u.busy ≡ true → u.phase ≡ Wait → ⊥)
+    (younger : (i : ℕ) (u : FunctionalUnit) → slice_get us i ≡ Some u → u.busy ≡ true → u.op.core.seq < o.core.seq)
+    (begun : (i : ℕ) (u : FunctionalUnit) → slice_get us i ≡ Some u → u.busy ≡ true → u.phase ≡ Wait → ⊥)
   where
     abbrev placed : List FunctionalUnit
     placed = modify k (occupy o r w p) us
@@ -70,10 +70,10 @@ module _
     abbrev New : FunctionalUnit → Type 0
     New u = (v : FunctionalUnit) × (u ≡ occupy o r w p v)
 
-    new-or-old : (i : ℕ) (u : FunctionalUnit) → nth placed i ≡ some u → New u ⊎ (nth us i ≡ some u)
+    new-or-old : (i : ℕ) (u : FunctionalUnit) → slice_get placed i ≡ Some u → New u ⊎ (slice_get us i ≡ Some u)
     new-or-old i u e = go (modify-back (occupy o r w p) k us i u e)
       where
-        go : ((v : FunctionalUnit) × (nth us i ≡ some v) × (u ≡ occupy o r w p v)) ⊎ (nth us i ≡ some u) → New u ⊎ (nth us i ≡ some u)
+        go : ((v : FunctionalUnit) × (slice_get us i ≡ Some v) × (u ≡ occupy o r w p v)) ⊎ (slice_get us i ≡ Some u) → New u ⊎ (slice_get us i ≡ Some u)
         go (inl (v, n, q)) = inl (v, q)
         go (inr n) = inr n
 
@@ -97,12 +97,12 @@ module _
           ahead = λ i j u v d e x y l. ahead-at i j u v (new-or-old i u d) (new-or-old j v e) x y l;
         }
       where
-        quick-at : (i : ℕ) (u : FunctionalUnit) → New u ⊎ (nth us i ≡ some u) → Quick u.class u.op
+        quick-at : (i : ℕ) (u : FunctionalUnit) → New u ⊎ (slice_get us i ≡ Some u) → Quick u.class u.op
         quick-at i u (inl e) = new-quick u e
         quick-at i u (inr e) = a.quick i u e
 
         ahead-at
-            : (i j : ℕ) (u v : FunctionalUnit) → New u ⊎ (nth us i ≡ some u) → New v ⊎ (nth us j ≡ some v)
+            : (i j : ℕ) (u v : FunctionalUnit) → New u ⊎ (slice_get us i ≡ Some u) → New v ⊎ (slice_get us j ≡ Some v)
             → Access u → Access v → u.op.core.seq < v.op.core.seq → unit-work u < unit-work v
         ahead-at i j u v (inl d) (inl e) x y l = absurd (omega (arith, new-seq u d, new-seq v e, l))
         ahead-at i j u v (inl d) (inr e) x y l = absurd (omega (arith, new-seq u d, younger j v e y.busy, l))

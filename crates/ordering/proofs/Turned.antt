@@ -3,13 +3,14 @@ use Prim.Native.Nat.{ℕ, suc, ◌+◌, ◌≤◌}
 use native.Mathlib.Omega.{arith}
 use mathlib.Core.Path.{◌≡◌, refl, sym, ◌∙◌, ap, subst}
 use mathlib.Core.Bool.{Bool, true, false, cond, not, ◌&&◌}
-use mathlib.Core.Option.{Option, none, some}
+use Rattle.std.specs.Prelude.{Option, None, Some, slice_get, option_map}
 use mathlib.Core.List.{List, [], ◌∷◌, map}
 use lib.Dec.{eqb, ltb}
 use borrow.Author.Tests.{eqb-true, ltb-true}
-use Rattle.laws.specs.Lists.{All, any_at, find_at, nth}
+use Rattle.laws.specs.Lists.{All, any_at, find_at}
 use Rattle.laws.specs.Numbers.{max64}
-use Rattle.laws.specs.Optional.{value_or, omap, or_else}
+use Rattle.laws.specs.Optional.{value_or}
+use Rattle.std.specs.Option.{option_or}
 use Rattle.laws.specs.Texts.{Text}
 use Rattle.laws.proofs.Choices.{none-some, some_inj}
 use Rattle.capability.specs.Numbers.{numbers, phase_number}
@@ -40,8 +41,8 @@ all_insert P p (q ∷ qs) a h = go (ltb q.0 p.0) (all_insert P p qs a h.1)
 -- What holds of each finished unit.
 all_ready
     : (P : ℕ × ℕ → Type 0) (i : ℕ) (us : List FunctionalUnit)
-    → ((m : ℕ) (u : FunctionalUnit) → nth us m ≡ some u → in_phase Write u ≡ true → P (seq_of u, i + m)) → All P (ready_at i us)
-unfolding writing nth
+    → ((m : ℕ) (u : FunctionalUnit) → slice_get us m ≡ Some u → in_phase Write u ≡ true → P (seq_of u, i + m)) → All P (ready_at i us)
+unfolding writing
 all_ready P i [] h = tt
 all_ready P i (u ∷ us) h =
     go (in_phase Write u) refl
@@ -59,7 +60,7 @@ all_ready P i (u ∷ us) h =
 -- What holds of each that is tried and blocked.
 all-turned-away
     : (P : ℕ × Blocked → Type 0) (us : List FunctionalUnit) (qs : List (ℕ × ℕ))
-    → All (λ (q : ℕ × ℕ). (b : Blocked) → write_blocked us q.1 ≡ some b → P (q.1, b)) qs → All P (try_writes us qs).turned_away
+    → All (λ (q : ℕ × ℕ). (b : Blocked) → write_blocked us q.1 ≡ Some b → P (q.1, b)) qs → All P (try_writes us qs).turned_away
 unfolding writing
 all-turned-away P us [] h = tt
 all-turned-away P us (q ∷ qs) h = go (write_blocked us q.1) refl (all-turned-away P us qs h.1)
@@ -67,8 +68,8 @@ all-turned-away P us (q ∷ qs) h = go (write_blocked us q.1) refl (all-turned-a
     go
         : (o : Option Blocked) → write_blocked us q.1 ≡ o → All P (try_writes us qs).turned_away
         → All P (try_one q.1 o (try_writes us qs)).turned_away
-    go none e k = tt
-    go (some b) e k = (h.0 b e, k)
+    go None e k = tt
+    go (Some b) e k = (h.0 b e, k)
 
 -- ── Why one is blocked ──────────────────────────────────────────────────────
 
@@ -78,30 +79,30 @@ Other (war r j) = Unit {0}
 Other (memory j) = ⊥
 Other drain = Unit {0}
 
-war-other : (us : List FunctionalUnit) (i : ℕ) (rs : List ℕ) (b : Blocked) → war_reader us i rs ≡ some b → Other b
+war-other : (us : List FunctionalUnit) (i : ℕ) (rs : List ℕ) (b : Blocked) → war_reader us i rs ≡ Some b → Other b
 unfolding writing
 war-other us i [] b h = none-some b h
 war-other us i (r ∷ rs) b h = go (war-other us i rs b) (find_at (reads i r) 0 us) h
   where
     go
-        : (war_reader us i rs ≡ some b → Other b) → (o : Option ℕ) → or_else (omap (war r) o) (war_reader us i rs) ≡ some b → Other b
-    go ih none k = ih k
-    go ih (some j) k = subst Other (some_inj (war r j) b k) tt
+        : (war_reader us i rs ≡ Some b → Other b) → (o : Option ℕ) → option_or (option_map (war r) o) (war_reader us i rs) ≡ Some b → Other b
+    go ih None k = ih k
+    go ih (Some j) k = subst Other (some_inj (war r j) b k) tt
 
 blocked-other
-    : (us : List FunctionalUnit) (i : ℕ) → memory_blocked us i ≡ none → (b : Blocked) → write_blocked us i ≡ some b → Other b
+    : (us : List FunctionalUnit) (i : ℕ) → memory_blocked us i ≡ None → (b : Blocked) → write_blocked us i ≡ Some b → Other b
 unfolding writing
 blocked-other us i m b h =
     go (war_reader us i (unit_at us i).destinations) refl
-    (sym (ap (λ (o : Option Blocked). or_else (war_reader us i (unit_at us i).destinations) (or_else o (drain_blocked us i))) m) ∙ h)
+    (sym (ap (λ (o : Option Blocked). option_or (war_reader us i (unit_at us i).destinations) (option_or o (drain_blocked us i))) m) ∙ h)
   where
-    drains : (d : Bool) → cond d (some drain) none ≡ some b → Other b
+    drains : (d : Bool) → cond d (Some drain) None ≡ Some b → Other b
     drains false k = none-some b k
     drains true k = subst Other (some_inj drain b k) tt
 
-    go : (o : Option Blocked) → war_reader us i (unit_at us i).destinations ≡ o → or_else o (drain_blocked us i) ≡ some b → Other b
-    go (some x) e k = war-other us i (unit_at us i).destinations b (e ∙ k)
-    go none e k = drains (is_system (unit_at us i).class && any_at (other_busy i) 0 us) k
+    go : (o : Option Blocked) → war_reader us i (unit_at us i).destinations ≡ o → option_or o (drain_blocked us i) ≡ Some b → Other b
+    go (Some x) e k = war-other us i (unit_at us i).destinations b (e ∙ k)
+    go None e k = drains (is_system (unit_at us i).class && any_at (other_busy i) 0 us) k
 
 -- ── The older is ahead ──────────────────────────────────────────────────────
 
@@ -131,7 +132,7 @@ finished-work u h =
     go Write e = refl
 
 module _ (us : List FunctionalUnit) (a : Ahead us) where
-  no-order : (i : ℕ) (u : FunctionalUnit) → nth us i ≡ some u → in_phase Write u ≡ true → memory_blocked us i ≡ none
+  no-order : (i : ℕ) (u : FunctionalUnit) → slice_get us i ≡ Some u → in_phase Write u ≡ true → memory_blocked us i ≡ None
   unfolding writing units
   no-order i u e p = go (is_memory (unit_at us i).class) refl (find_at (older_memory i (seq_of (unit_at us i))) 0 us) refl
     where
@@ -142,7 +143,7 @@ module _ (us : List FunctionalUnit) (a : Ahead us) where
       busy-seq v t = ap (λ (x : Bool). cond x v.op.core.seq max64) t
 
       none-older
-          : is_memory (unit_at us i).class ≡ true → (j : ℕ) (v : FunctionalUnit) → nth us j ≡ some v
+          : is_memory (unit_at us i).class ≡ true → (j : ℕ) (v : FunctionalUnit) → slice_get us j ≡ Some v
           → older_memory i (seq_of (unit_at us i)) (0 + j) v ≡ true → ⊥
       none-older m j v q t =
           let t1 = and_both (not (eqb (0 + j) i) && v.busy && is_memory v.class) (ltb (seq_of v) (seq_of (unit_at us i))) t in
@@ -157,10 +158,10 @@ module _ (us : List FunctionalUnit) (a : Ahead us) where
 
       go
           : (d : Bool) → is_memory (unit_at us i).class ≡ d → (o : Option ℕ) → find_at (older_memory i (seq_of (unit_at us i))) 0 us ≡ o
-          → cond d (omap memory o) none ≡ none
+          → cond d (option_map memory o) None ≡ None
       go false m o q = refl
-      go true m none q = refl
-      go true m (some j) q =
+      go true m None q = refl
+      go true m (Some j) q =
           let w = find-hit (older_memory i (seq_of (unit_at us i))) 0 us j q in
           absurd
           (none-older m w.0 w.2.0 w.2.1
@@ -172,10 +173,10 @@ module _ (us : List FunctionalUnit) (a : Ahead us) where
       all_map (λ (b : ℕ × Blocked). Other b.1) (λ (t : Trace). orders_memory t.detail ≡ false) (blocked_trace vs ns) told
       (writable_unit us).turned_away
       (all-turned-away (λ (b : ℕ × Blocked). Other b.1) us (ready_at 0 us)
-      (all_ready (λ (q : ℕ × ℕ). (b : Blocked) → write_blocked us q.1 ≡ some b → Other b) 0 us
+      (all_ready (λ (q : ℕ × ℕ). (b : Blocked) → write_blocked us q.1 ≡ Some b → Other b) 0 us
       (λ m u e p b h.
       let z : m ≡ 0 + m = omega arith in
-      blocked-other us (0 + m) (subst (λ (k : ℕ). memory_blocked us k ≡ none) z (no-order m u e p)) b h)))
+      blocked-other us (0 + m) (subst (λ (k : ℕ). memory_blocked us k ≡ None) z (no-order m u e p)) b h)))
     where
       told : (b : ℕ × Blocked) → Other b.1 → orders_memory (blocked_trace vs ns b).detail ≡ false
       told (i, b) h = at b h

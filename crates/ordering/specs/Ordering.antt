@@ -1,46 +1,14 @@
 -- In a run of the program `forecast` no load or store waits for memory order.
-use Rattle.std.specs.Prelude.{ℕ, ◌≡◌, Bool, true, false, List, [], ◌∷◌, replicate}
-use Rattle.std.proofs.Math.Option.{none, some}
+use Rattle.std.specs.Prelude.{ℕ, ◌≡◌, Bool, true, false, List, [], ◌∷◌, replicate, None, Some}
 use Rattle.laws.specs.Lists.{All}
 use Rattle.laws.specs.Texts.{Text, bytes}
 use Rattle.capability.specs.declared.PipelineHazardKind.TheVariants.{ReadAfterWrite, FunctionalUnitBusy, WriteAfterRead}
 use Rattle.capability.specs.declared.PipelineInstructionClass.TheVariants.{Alu}
 use Rattle.model.specs.Config.{default_timing, unit_spec, pipeline_shape}
-use Rattle.model.specs.Traces.{
-  Detail,
-  overwrites,
-  memory_order,
-  drains,
-  waits_for,
-  behind_branch,
-  behind_system,
-  still_writes,
-  all_busy,
-  redirect_to,
-  Trace,
-  trace_of,
-  ISSUE,
-  READ,
-  EXECUTE,
-  WRITE,
-}
+use Rattle.model.specs.Traces.{Detail, overwrites, memory_order, drains, waits_for, behind_branch, behind_system, still_writes, all_busy, redirect_to, Trace, trace_of, ISSUE, READ, EXECUTE, WRITE}
 use Rattle.model.specs.State.{new}
 use Rattle.model.specs.Calls.{start, overlap}
-use Rattle.model.specs.Forecast.{
-  forecast_shape,
-  Lent,
-  lent_of,
-  play,
-  Run,
-  not_made,
-  line_refused,
-  finished,
-  going,
-  retire_offer,
-  cycle,
-  forecast_run,
-  forecast_of,
-}
+use Rattle.model.specs.Forecast.{forecast_shape, Lent, lent_of, play, Run, not_made, line_refused, finished, going, retire_offer, cycle, forecast_run, forecast_of}
 use Rattle.ending.specs.Ending.{begun}
 
 -- ── The wait ────────────────────────────────────────────────────────────────
@@ -94,7 +62,7 @@ abbrev pub three_begun : Text → Run
 three_begun input =
     going
     (play (overlap true)
-    (lent_of (new (pipeline_shape forecast_shape.stages none default_timing (unit_spec (bytes "EX") [] Alu 3 ∷ []) 256) 0) (replicate 51200 255)))
+    (lent_of (new (pipeline_shape forecast_shape.stages None default_timing (unit_spec (bytes "EX") [] Alu 3 ∷ []) 256) 0) (replicate 51200 255)))
     input 0
 
 -- Other waits come: an addition that is to write x1 waits for a division that reads it.
@@ -108,4 +76,4 @@ abbrev pub ThirdUnitOrders : Type 0
 ThirdUnitOrders =
     waits_of (forecast_run 8 (three_begun (bytes "D 4 - x1 divide\nL 4 x1 - first\nL 4 - - second")))
     ≡ trace_of FunctionalUnitBusy READ WRITE (memory_order (bytes "second") (bytes "first"))
-    ∷ trace_of ReadAfterWrite EXECUTE ISSUE (waits_for (bytes "first") (bytes "x1") (some (bytes "divide"))) ∷ []
+    ∷ trace_of ReadAfterWrite EXECUTE ISSUE (waits_for (bytes "first") (bytes "x1") (Some (bytes "divide"))) ∷ []

@@ -6,26 +6,7 @@ use Rattle.model.specs.Config.{PipelineShape}
 use Rattle.model.specs.Timeline.{write_all}
 use Rattle.model.specs.State.{State, new}
 use Rattle.model.specs.Requests.{Request, text_at, buffer_with}
-use Rattle.model.specs.Calls.{
-  Call,
-  Check,
-  checks,
-  make_checks,
-  refused,
-  answer,
-  after,
-  memory_after,
-  buffer_after,
-  text,
-  reply,
-  run,
-  sets,
-  no_machine,
-  made,
-  make,
-  memory_made,
-  make_memory,
-}
+use Rattle.model.specs.Calls.{Call, Check, checks, make_checks, refused, answer, after, memory_after, buffer_after, text, reply, run, sets, no_machine, made, make, memory_made, make_memory}
 
 abbrev pub fails : Check → Type 0
 fails p = p.1 ≡ false

@@ -2,10 +2,10 @@
 use Prim.Native.Nat.{ℕ}
 use native.Mathlib.Omega.{arith}
 use mathlib.Core.Path.{◌≡◌, refl, sym, ◌∙◌, ap, ap₂, subst}
-use mathlib.Core.Option.{Option, none, some}
+use Rattle.std.specs.Prelude.{Option, None, Some, slice_get, option_map}
 use mathlib.Core.List.{List, [], ◌∷◌, ◌++◌, map}
-use Rattle.laws.specs.Lists.{All, All2, more2, none2, nth}
-use Rattle.laws.specs.Optional.{omap, when_some}
+use Rattle.laws.specs.Lists.{All, All2, more2, none2}
+use Rattle.laws.specs.Optional.{when_some}
 use Rattle.laws.specs.Texts.{Text}
 use Rattle.model.specs.Calls.{Call, after, calls, looked_by, looks, make_memory, memory_after, refusal, runs}
 use Rattle.model.specs.Config.{PipelineShape, machine_of}
@@ -46,48 +46,48 @@ alike_runs s t cs ds (more2 {a = c} {b = d} {as' = cs'} {bs = ds'} a as') e =
 
 -- The operations the_engine at one number, related so, are still so after more fetches.
 carries-more
-    : (r : Text → Text → Type 0) (is js xs ys : List Info) (n : ℕ) → CarriesAt r (nth is n) (nth js n)
-    → CarriesAt r (nth (is ++ xs) n) (nth (js ++ ys) n)
-carries-more r is js xs ys n = go (nth is n) (nth js n) refl refl
+    : (r : Text → Text → Type 0) (is js xs ys : List Info) (n : ℕ) → CarriesAt r (slice_get is n) (slice_get js n)
+    → CarriesAt r (slice_get (is ++ xs) n) (slice_get (js ++ ys) n)
+carries-more r is js xs ys n = go (slice_get is n) (slice_get js n) refl refl
   where
-    go : (a b : Option Info) → nth is n ≡ a → nth js n ≡ b → CarriesAt r a b → CarriesAt r (nth (is ++ xs) n) (nth (js ++ ys) n)
-    go none none p q c = absurd c
-    go none (some j) p q c = absurd c
-    go (some i) none p q c = absurd c
-    go (some i) (some j) p q c =
-        subst (λ (x : Option Info). CarriesAt r x (nth (js ++ ys) n)) (sym (nth_left is xs n i p))
-        (subst (λ (y : Option Info). CarriesAt r (some i) y) (sym (nth_left js ys n j q)) c)
+    go : (a b : Option Info) → slice_get is n ≡ a → slice_get js n ≡ b → CarriesAt r a b → CarriesAt r (slice_get (is ++ xs) n) (slice_get (js ++ ys) n)
+    go None None p q c = absurd c
+    go None (Some j) p q c = absurd c
+    go (Some i) None p q c = absurd c
+    go (Some i) (Some j) p q c =
+        subst (λ (x : Option Info). CarriesAt r x (slice_get (js ++ ys) n)) (sym (nth_left is xs n i p))
+        (subst (λ (y : Option Info). CarriesAt r (Some i) y) (sym (nth_left js ys n j q)) c)
 
 module _ (r : Text → Text → Type 0) where
   -- The looked-at operations the_engine match, where the operations the_engine at their number do.
   matched
       : (is js xs ys : List Info) (x y : Option Op) (ns : List Text) → Each (Tracked is) x → Each (Tracked js) y
-      → omap (bare_op hide) x ≡ omap (bare_op hide) y
-      → All (λ (n : ℕ). CarriesAt r (nth (is ++ xs) n) (nth (js ++ ys) n)) (map look_number (when_some x [] (λ (o : Op). look ns o ∷ [])))
+      → option_map (bare_op hide) x ≡ option_map (bare_op hide) y
+      → All (λ (n : ℕ). CarriesAt r (slice_get (is ++ xs) n) (slice_get (js ++ ys) n)) (map look_number (when_some x [] (λ (o : Op). look ns o ∷ [])))
       → Matched r x y
   unfolding issuing
-  matched is js xs ys none none ns p q e c = tt
-  matched is js xs ys none (some b) ns p q e c = none-some (bare_op hide b) e
-  matched is js xs ys (some a) none ns p q e c = none-some (bare_op hide a) (sym e)
-  matched is js xs ys (some a) (some b) ns p q e c =
+  matched is js xs ys None None ns p q e c = tt
+  matched is js xs ys None (Some b) ns p q e c = none-some (bare_op hide b) e
+  matched is js xs ys (Some a) None ns p q e c = none-some (bare_op hide a) (sym e)
+  matched is js xs ys (Some a) (Some b) ns p q e c =
       let s : a.core.seq ≡ b.core.seq = λ i. (some_inj (bare_op hide a) (bare_op hide b) e i).core.seq in (
         s,
-        subst (λ (y : Option Info). CarriesAt r (some a.info) y)
-            (ap (nth (js ++ ys)) s ∙ nth_left js ys b.core.seq b.info q)
-            (subst (λ (x : Option Info). CarriesAt r x (nth (js ++ ys) a.core.seq)) (nth_left is xs a.core.seq a.info p) c.0),
+        subst (λ (y : Option Info). CarriesAt r (Some a.info) y)
+            (ap (slice_get (js ++ ys)) s ∙ nth_left js ys b.core.seq b.info q)
+            (subst (λ (x : Option Info). CarriesAt r x (slice_get (js ++ ys) a.core.seq)) (nth_left is xs a.core.seq a.info p) c.0),
       )
 
   -- What was just looked at joins what was seen.
   just-seen
       : (is js : List Info) (x y : Option Op) (ns : List Text) → Each (Tracked is) x → Each (Tracked js) y → Matched r x y
-      → All (λ (n : ℕ). CarriesAt r (nth is n) (nth js n)) (map look_number (when_some x [] (λ (o : Op). look ns o ∷ [])))
+      → All (λ (n : ℕ). CarriesAt r (slice_get is n) (slice_get js n)) (map look_number (when_some x [] (λ (o : Op). look ns o ∷ [])))
   unfolding issuing
-  just-seen is js none none ns p q m = tt
-  just-seen is js none (some b) ns p q m = absurd m
-  just-seen is js (some a) none ns p q m = absurd m
-  just-seen is js (some a) (some b) ns p q m = (
-    subst (λ (x : Option Info). CarriesAt r x (nth js a.core.seq)) (sym p)
-        (subst (λ (y : Option Info). CarriesAt r (some a.info) y) (sym (ap (nth js) m.0 ∙ q)) m.1),
+  just-seen is js None None ns p q m = tt
+  just-seen is js None (Some b) ns p q m = absurd m
+  just-seen is js (Some a) None ns p q m = absurd m
+  just-seen is js (Some a) (Some b) ns p q m = (
+    subst (λ (x : Option Info). CarriesAt r x (slice_get js a.core.seq)) (sym p)
+        (subst (λ (y : Option Info). CarriesAt r (Some a.info) y) (sym (ap (slice_get js) m.0 ∙ q)) m.1),
     tt,
   )
 
@@ -98,12 +98,12 @@ record Past
   table : All2 r (after s c).names (after t d).names
   first_held : Held (is ++ accepted s c) (after s c)
   second_held : Held (js ++ accepted t d) (after t d)
-  seen_so : All (λ (n : ℕ). CarriesAt r (nth (is ++ accepted s c) n) (nth (js ++ accepted t d) n)) (seen_by the_engine seen s c)
+  seen_so : All (λ (n : ℕ). CarriesAt r (slice_get (is ++ accepted s c) n) (slice_get (js ++ accepted t d) n)) (seen_by the_engine seen s c)
   to_come
       : All
       (λ (n : ℕ).
-      CarriesAt r (nth ((is ++ accepted s c) ++ operations the_engine (after s c) cs) n)
-      (nth ((js ++ accepted t d) ++ operations the_engine (after t d) ds) n))
+      CarriesAt r (slice_get ((is ++ accepted s c) ++ operations the_engine (after s c) cs) n)
+      (slice_get ((js ++ accepted t d) ++ operations the_engine (after t d) ds) n))
       (looked_numbers the_engine (after s c) cs)
   seen_alike : seen_by the_engine seen s c ≡ seen_by the_engine seen t d
   same_memory : memory_after s c m ≡ memory_after t d m
@@ -112,8 +112,8 @@ record Past
 module _ (r : Text → Text → Type 0) (one : OneToOne r) where
   one-call
       : (s t : State) (c d : Call) (cs' ds' : List Call) → Alike c d → refusal s c ≡ refusal t d → (is js : List Info) (seen mem : List ℕ)
-      → Held is s → Held js t → Like s t → All2 r s.names t.names → All (λ (n : ℕ). CarriesAt r (nth is n) (nth js n)) seen
-      → All (λ (n : ℕ). CarriesAt r (nth (is ++ operations the_engine s (c ∷ cs')) n) (nth (js ++ operations the_engine t (d ∷ ds')) n)) (looked_numbers the_engine s (c ∷ cs'))
+      → Held is s → Held js t → Like s t → All2 r s.names t.names → All (λ (n : ℕ). CarriesAt r (slice_get is n) (slice_get js n)) seen
+      → All (λ (n : ℕ). CarriesAt r (slice_get (is ++ operations the_engine s (c ∷ cs')) n) (slice_get (js ++ operations the_engine t (d ∷ ds')) n)) (looked_numbers the_engine s (c ∷ cs'))
       → Past r s t c d cs' ds' is js seen mem
   unfolding calls looked_numbers operations
   one-call s t c d cs' ds' a e is js seen mem hs ht h u past k =
@@ -139,7 +139,7 @@ module _ (r : Text → Text → Type 0) (one : OneToOne r) where
       m =
           matched r is js (operations the_engine s (c ∷ cs')) (operations the_engine t (d ∷ ds')) (looked_by s c) (looked_by t d) s.names xt yt
           (like-looked-by s t c d a e h)
-          (all_left (λ (n : ℕ). CarriesAt r (nth (is ++ operations the_engine s (c ∷ cs')) n) (nth (js ++ operations the_engine t (d ∷ ds')) n))
+          (all_left (λ (n : ℕ). CarriesAt r (slice_get (is ++ operations the_engine s (c ∷ cs')) n) (slice_get (js ++ operations the_engine t (d ∷ ds')) n))
           (map look_number (looks s c)) (looked_numbers the_engine (after s c) cs') k)
 
       h' : Like (after s c) (after t d)
@@ -157,12 +157,12 @@ module _ (r : Text → Text → Type 0) (one : OneToOne r) where
       seens : map look_number (looks s c) ++ seen ≡ map look_number (looks t d) ++ seen
       seens = ap (λ l. map look_number l ++ seen) same-looks
 
-      past' : All (λ (n : ℕ). CarriesAt r (nth (is ++ accepted s c) n) (nth (js ++ accepted t d) n)) (map look_number (looks s c) ++ seen)
+      past' : All (λ (n : ℕ). CarriesAt r (slice_get (is ++ accepted s c) n) (slice_get (js ++ accepted t d) n)) (map look_number (looks s c) ++ seen)
       past' =
-          all-weaken (λ (n : ℕ). CarriesAt r (nth is n) (nth js n))
-          (λ (n : ℕ). CarriesAt r (nth (is ++ accepted s c) n) (nth (js ++ accepted t d) n))
+          all-weaken (λ (n : ℕ). CarriesAt r (slice_get is n) (slice_get js n))
+          (λ (n : ℕ). CarriesAt r (slice_get (is ++ accepted s c) n) (slice_get (js ++ accepted t d) n))
           (λ n. carries-more r is js (accepted s c) (accepted t d) n) (map look_number (looks s c) ++ seen)
-          (all_append (λ (n : ℕ). CarriesAt r (nth is n) (nth js n)) (map look_number (looks s c)) seen
+          (all_append (λ (n : ℕ). CarriesAt r (slice_get is n) (slice_get js n)) (map look_number (looks s c)) seen
           (just-seen r is js (looked_by s c) (looked_by t d) s.names xt yt m) past)
 
       hs' : Held (is ++ accepted s c) (after s c)
@@ -190,25 +190,25 @@ module _ (r : Text → Text → Type 0) (one : OneToOne r) where
       k'
           : All
           (λ (n : ℕ).
-          CarriesAt r (nth ((is ++ accepted s c) ++ operations the_engine (after s c) cs') n)
-          (nth ((js ++ accepted t d) ++ operations the_engine (after t d) ds') n))
+          CarriesAt r (slice_get ((is ++ accepted s c) ++ operations the_engine (after s c) cs') n)
+          (slice_get ((js ++ accepted t d) ++ operations the_engine (after t d) ds') n))
           (looked_numbers the_engine (after s c) cs')
       k' =
           subst
           (λ (l : List Info).
-          All (λ (n : ℕ). CarriesAt r (nth l n) (nth ((js ++ accepted t d) ++ operations the_engine (after t d) ds') n)) (looked_numbers the_engine (after s c) cs'))
+          All (λ (n : ℕ). CarriesAt r (slice_get l n) (slice_get ((js ++ accepted t d) ++ operations the_engine (after t d) ds') n)) (looked_numbers the_engine (after s c) cs'))
           (sym (append-three is (accepted s c) (operations the_engine (after s c) cs')))
           (subst
           (λ (l : List Info).
-          All (λ (n : ℕ). CarriesAt r (nth (is ++ operations the_engine s (c ∷ cs')) n) (nth l n)) (looked_numbers the_engine (after s c) cs'))
+          All (λ (n : ℕ). CarriesAt r (slice_get (is ++ operations the_engine s (c ∷ cs')) n) (slice_get l n)) (looked_numbers the_engine (after s c) cs'))
           (sym (append-three js (accepted t d) (operations the_engine (after t d) ds')))
-          (all_right (λ (n : ℕ). CarriesAt r (nth (is ++ operations the_engine s (c ∷ cs')) n) (nth (js ++ operations the_engine t (d ∷ ds')) n))
+          (all_right (λ (n : ℕ). CarriesAt r (slice_get (is ++ operations the_engine s (c ∷ cs')) n) (slice_get (js ++ operations the_engine t (d ∷ ds')) n))
           (map look_number (looks s c)) (looked_numbers the_engine (after s c) cs') k))
 
   if-part
       : (s t : State) (cs ds : List Call) → AlikeRuns s t cs ds → (is js : List Info) (seen m : List ℕ) → Held is s → Held js t → Like s t
-      → All2 r s.names t.names → All (λ (n : ℕ). CarriesAt r (nth is n) (nth js n)) seen
-      → All (λ (n : ℕ). CarriesAt r (nth (is ++ operations the_engine s cs) n) (nth (js ++ operations the_engine t ds) n)) (looked_numbers the_engine s cs)
+      → All2 r s.names t.names → All (λ (n : ℕ). CarriesAt r (slice_get is n) (slice_get js n)) seen
+      → All (λ (n : ℕ). CarriesAt r (slice_get (is ++ operations the_engine s cs) n) (slice_get (js ++ operations the_engine t ds) n)) (looked_numbers the_engine s cs)
       → recording the_engine seen s m cs ≡ recording the_engine seen t m ds
   unfolding recording
   if-part s t cs ds both_end is js seen m hs ht h u past c = refl
@@ -224,12 +224,12 @@ module _ (r : Text → Text → Type 0) (one : OneToOne r) where
 
 -- The table after a call has the table before, and stays distinct.
 learn-extends : (ns : List Text) (x : Option Op) → Extends ns (learn-from ns x)
-learn-extends ns none = extends-refl ns
-learn-extends ns (some o) = resolve-extends ns o.info
+learn-extends ns None = extends-refl ns
+learn-extends ns (Some o) = resolve-extends ns o.info
 
 learn-distinct : (ns : List Text) (x : Option Op) → Distinct ns → Distinct (learn-from ns x)
-learn-distinct ns none d = d
-learn-distinct ns (some o) d = resolve-distinct ns o.info d
+learn-distinct ns None d = d
+learn-distinct ns (Some o) d = resolve-distinct ns o.info d
 
 grows : (s t : State) (cs ds : List Call) → AlikeRuns s t cs ds → Extends s.names (runs s cs).names × Extends t.names (runs t ds).names
 unfolding calls
@@ -268,15 +268,15 @@ split ns ms bs cs bs' cs' js ks js' ks' e (more2 {a = b} {b = j} {as' = bl} {bs 
 -- A look that gave the same numbers in both runs is carried by the tables at the end.
 look-carried
     : (F G ns ms : List Text) (is js xs ys : List Info) (x y : Option Op) → Each (Tracked is) x → Each (Tracked js) y
-    → omap (bare_op hide) x ≡ omap (bare_op hide) y
+    → option_map (bare_op hide) x ≡ option_map (bare_op hide) y
     → when_some x [] (λ (o : Op). look ns o ∷ []) ≡ when_some y [] (λ (o : Op). look ms o ∷ []) → Extends (learn-from ns x) F
     → Extends (learn-from ms y) G
-    → All (λ (n : ℕ). CarriesAt (Paired F G) (nth (is ++ xs) n) (nth (js ++ ys) n)) (map look_number (when_some x [] (λ (o : Op). look ns o ∷ [])))
+    → All (λ (n : ℕ). CarriesAt (Paired F G) (slice_get (is ++ xs) n) (slice_get (js ++ ys) n)) (map look_number (when_some x [] (λ (o : Op). look ns o ∷ [])))
 unfolding issuing registers
-look-carried F G ns ms is js xs ys none none p q e f u v = tt
-look-carried F G ns ms is js xs ys none (some b) p q e f u v = none-some (bare_op hide b) e
-look-carried F G ns ms is js xs ys (some a) none p q e f u v = none-some (bare_op hide a) (sym e)
-look-carried F G ns ms is js xs ys (some a) (some b) p q e f u v =
+look-carried F G ns ms is js xs ys None None p q e f u v = tt
+look-carried F G ns ms is js xs ys None (Some b) p q e f u v = none-some (bare_op hide b) e
+look-carried F G ns ms is js xs ys (Some a) None p q e f u v = none-some (bare_op hide a) (sym e)
+look-carried F G ns ms is js xs ys (Some a) (Some b) p q e f u v =
     let ops : bare_op hide a ≡ bare_op hide b = some_inj (bare_op hide a) (bare_op hide b) e in
     let gave : look ns a ≡ look ms b = cons_head (look ns a) (look ms b) [] [] f in
     let s : a.core.seq ≡ b.core.seq = λ i. (ops i).core.seq in
@@ -289,16 +289,16 @@ look-carried F G ns ms is js xs ys (some a) (some b) p q e f u v =
     (at_more (resolve ms j).names G j.sources (resolve ms j).read v (resolve-read ms j))
     (at_more (resolve ns i).names F i.writes (resolve ns i).written u (resolve-written ns i))
     (at_more (resolve ms j).names G j.writes (resolve ms j).written v (resolve-written ms j)) (λ k. (gave k).1) in (
-      subst (λ (x : Option Info). CarriesAt (Paired F G) x (nth (js ++ ys) a.core.seq)) (sym (nth_left is xs a.core.seq i p))
-          (subst (λ (y : Option Info). CarriesAt (Paired F G) (some i) y)
-          (sym (ap (nth (js ++ ys)) s ∙ nth_left js ys b.core.seq j q)) c),
+      subst (λ (x : Option Info). CarriesAt (Paired F G) x (slice_get (js ++ ys) a.core.seq)) (sym (nth_left is xs a.core.seq i p))
+          (subst (λ (y : Option Info). CarriesAt (Paired F G) (Some i) y)
+          (sym (ap (slice_get (js ++ ys)) s ∙ nth_left js ys b.core.seq j q)) c),
       tt,
     )
 
 only-if-part
     : (F G : List Text) (s t : State) (cs ds : List Call) → AlikeRuns s t cs ds → Extends (runs s cs).names F → Extends (runs t ds).names G
     → (is js : List Info) (sn sm m l : List ℕ) → Held is s → Held js t → Like s t → recording the_engine sn s m cs ≡ recording the_engine sm t l ds
-    → All (λ (n : ℕ). CarriesAt (Paired F G) (nth (is ++ operations the_engine s cs) n) (nth (js ++ operations the_engine t ds) n)) (looked_numbers the_engine s cs)
+    → All (λ (n : ℕ). CarriesAt (Paired F G) (slice_get (is ++ operations the_engine s cs) n) (slice_get (js ++ operations the_engine t ds) n)) (looked_numbers the_engine s cs)
 unfolding calls looked_numbers recording operations
 only-if-part F G s t cs ds both_end u v is js sn sm m l hs ht h e = tt
 only-if-part F G s t cs ds (both_call {c = c} {d = d} {cs = cs'} {ds = ds'} a e rest) u v is js sn sm m l hs ht h k =
@@ -312,7 +312,7 @@ only-if-part F G s t cs ds (both_call {c = c} {d = d} {cs = cs'} {ds = ds'} a e 
     let h' : Like (after s c) (after t d)
     = hidden (by_number (after s c).names (seen_by the_engine sn s c)) (by_number (after t d).names (seen_by the_engine sm t d)) (after s c) (after t d)
     (λ i. (now i).left) in
-    all_append (λ (n : ℕ). CarriesAt (Paired F G) (nth (is ++ operations the_engine s (c ∷ cs')) n) (nth (js ++ operations the_engine t (d ∷ ds')) n))
+    all_append (λ (n : ℕ). CarriesAt (Paired F G) (slice_get (is ++ operations the_engine s (c ∷ cs')) n) (slice_get (js ++ operations the_engine t (d ∷ ds')) n))
     (map look_number (looks s c)) (looked_numbers the_engine (after s c) cs')
     (look-carried F G s.names t.names is js (operations the_engine s (c ∷ cs')) (operations the_engine t (d ∷ ds')) (looked_by s c) (looked_by t d)
     (looked_by-tracked is s c hs) (looked_by-tracked js t d ht) (like-looked-by s t c d a e h) (λ i. (now i).gave)
@@ -322,11 +322,11 @@ only-if-part F G s t cs ds (both_call {c = c} {d = d} {cs = cs'} {ds = ds'} a e 
     (subst (λ ns. Extends ns (runs (after t d) ds').names) (after-names t d (alike_right c d a)) g.1) v))
     (subst
     (λ (l : List Info).
-    All (λ (n : ℕ). CarriesAt (Paired F G) (nth l n) (nth (js ++ operations the_engine t (d ∷ ds')) n)) (looked_numbers the_engine (after s c) cs'))
+    All (λ (n : ℕ). CarriesAt (Paired F G) (slice_get l n) (slice_get (js ++ operations the_engine t (d ∷ ds')) n)) (looked_numbers the_engine (after s c) cs'))
     (append-three is (accepted s c) (operations the_engine (after s c) cs'))
     (subst
     (λ (l : List Info).
-    All (λ (n : ℕ). CarriesAt (Paired F G) (nth ((is ++ accepted s c) ++ operations the_engine (after s c) cs') n) (nth l n))
+    All (λ (n : ℕ). CarriesAt (Paired F G) (slice_get ((is ++ accepted s c) ++ operations the_engine (after s c) cs') n) (slice_get l n))
     (looked_numbers the_engine (after s c) cs'))
     (append-three js (accepted t d) (operations the_engine (after t d) ds'))
     (only-if-part F G (after s c) (after t d) cs' ds' rest u v (is ++ accepted s c) (js ++ accepted t d) (seen_by the_engine sn s c)

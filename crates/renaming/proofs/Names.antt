@@ -2,9 +2,9 @@
 use Prim.Native.Nat.{ℕ, suc}
 use mathlib.Core.Path.{◌≡◌, refl, sym, ◌∙◌, ap, ap₂, subst}
 use mathlib.Core.Bool.{Bool, true, false, cond}
-use mathlib.Core.Option.{Option, none, some}
+use Rattle.std.specs.Prelude.{Option, None, Some, slice_get}
 use mathlib.Core.List.{List, [], ◌∷◌, map}
-use Rattle.laws.specs.Lists.{All2, more2, none2, nth}
+use Rattle.laws.specs.Lists.{All2, more2, none2}
 use Rattle.laws.specs.Optional.{when_some}
 use Rattle.laws.specs.Texts.{Text, same}
 use Rattle.laws.proofs.Choices.{bool_eq, some_inj}
@@ -66,7 +66,7 @@ module _ (r : Text → Text → Type 0) (o : OneToOne r) where
   unfolding registers
   get-renamed ns ms a b none2 p = refl
   get-renamed ns ms a b (more2 {a = x} {b = y} {as' = xs} {bs = ys} q qs) p =
-      ap₂ (λ (k : Bool) (m : Option ℕ). cond k (some 0) (when_some m none (λ (n : ℕ). some (suc n)))) (same-renamed x y a b q p)
+      ap₂ (λ (k : Bool) (m : Option ℕ). cond k (Some 0) (when_some m None (λ (n : ℕ). Some (suc n)))) (same-renamed x y a b q p)
       (get-renamed xs ys a b qs p)
 
 pub same-many : {r : Text → Text → Type 0} (ns ms : List Text) → All2 r ns ms → map blank ns ≡ map blank ms
@@ -83,9 +83,9 @@ pub paired-one : (ns ms : List Text) → Distinct ns → Distinct ms → OneToOn
 paired-one ns ms d e =
     record {
       onto_one = λ a b c p q.
-          some_inj b c (sym p.2 ∙ ap (nth ms) (one_place ns a p.0 q.0 d p.1 q.1) ∙ q.2);
+          some_inj b c (sym p.2 ∙ ap (slice_get ms) (one_place ns a p.0 q.0 d p.1 q.1) ∙ q.2);
       from_one = λ a b c p q.
-          some_inj a b (sym p.1 ∙ ap (nth ns) (one_place ms c p.0 q.0 e p.2 q.2) ∙ q.1);
+          some_inj a b (sym p.1 ∙ ap (slice_get ns) (one_place ms c p.0 q.0 e p.2 q.2) ∙ q.1);
     }
 
 pub paired-all : (ns ms : List Text) (bs cs : List Text) (ks : List ℕ) → All2 (At ns) bs ks → All2 (At ms) cs ks → All2 (Paired ns ms) bs cs

@@ -2,15 +2,17 @@
 use Prim.Native.Nat.{ℕ, suc, ◌-◌}
 use mathlib.Core.Path.{◌≡◌, refl, sym, ◌∙◌, ap, ap₂}
 use mathlib.Core.Bool.{Bool, true, false, cond, ◌&&◌}
-use mathlib.Core.Option.{Option, none, some}
+use Rattle.std.specs.Prelude.{Option, None, Some, slice_get, option_map}
 use mathlib.Core.List.{List, [], ◌∷◌, ◌++◌, map}
 use lib.Dec.{eqb, ltb}
 use lib.ListN.{length, drop}
 use Rattle.capability.specs.declared.Phase.TheVariants.{Write}
 use Rattle.capability.specs.declared.PipelineHazardKind.{PipelineHazardKind}
 use Rattle.capability.specs.declared.PipelineInstructionClass.{PipelineInstructionClass}
-use Rattle.laws.specs.Lists.{any, find_at, is_empty, keep, modify, nth}
-use Rattle.laws.specs.Optional.{value_or, omap, or_else}
+use Rattle.laws.specs.Lists.{find_at, is_empty, keep, modify}
+use Rattle.std.specs.List.{list_any}
+use Rattle.laws.specs.Optional.{value_or}
+use Rattle.std.specs.Option.{option_or}
 use Rattle.laws.specs.Texts.{Text}
 use Rattle.model.specs.Config.{UnitSpec, is_memory, is_system}
 use Rattle.model.specs.Issue.{free_unit, issuing, unit_cell, wait_trace}
@@ -32,11 +34,11 @@ hide n a = blank a
 
 pub bare-at : (us : List FunctionalUnit) (i : ℕ) → unit_at (map (bare_unit hide) us) i ≡ bare_unit hide (unit_at us i)
 unfolding units
-bare-at us i = rw (nth-map (bare_unit hide) us i) (go (nth us i))
+bare-at us i = rw (nth-map (bare_unit hide) us i) (go (slice_get us i))
   where
-    go : (o : Option FunctionalUnit) → value_or (idle_unit 0 0) (omap (bare_unit hide) o) ≡ bare_unit hide (value_or (idle_unit 0 0) o)
-    go none = refl
-    go (some u) = refl
+    go : (o : Option FunctionalUnit) → value_or (idle_unit 0 0) (option_map (bare_unit hide) o) ≡ bare_unit hide (value_or (idle_unit 0 0) o)
+    go None = refl
+    go (Some u) = refl
 
 bare-ready : (i : ℕ) (us : List FunctionalUnit) → ready_at i (map (bare_unit hide) us) ≡ ready_at i us
 unfolding writing units
@@ -48,29 +50,29 @@ bare-war : (us : List FunctionalUnit) (i : ℕ) (rs : List ℕ) → war_reader (
 unfolding writing
 bare-war us i [] = refl
 bare-war us i (r ∷ rs) =
-    ap₂ or_else (ap (omap (war r)) (find-map (bare_unit hide) (reads i r) (reads i r) (λ j u. refl) 0 us)) (bare-war us i rs)
+    ap₂ option_or (ap (option_map (war r)) (find-map (bare_unit hide) (reads i r) (reads i r) (λ j u. refl) 0 us)) (bare-war us i rs)
 
 bare-memory : (us : List FunctionalUnit) (i : ℕ) → memory_blocked (map (bare_unit hide) us) i ≡ memory_blocked us i
 unfolding writing units
 bare-memory us i =
     ap
-    (λ (u : FunctionalUnit). cond (is_memory u.class) (omap memory (find_at (older_memory i (seq_of u)) 0 (map (bare_unit hide) us))) none)
+    (λ (u : FunctionalUnit). cond (is_memory u.class) (option_map memory (find_at (older_memory i (seq_of u)) 0 (map (bare_unit hide) us))) None)
     (bare-at us i)
-    ∙ ap (λ (o : Option ℕ). cond (is_memory (unit_at us i).class) (omap memory o) none)
+    ∙ ap (λ (o : Option ℕ). cond (is_memory (unit_at us i).class) (option_map memory o) None)
     (find-map (bare_unit hide) (older_memory i (seq_of (unit_at us i))) (older_memory i (seq_of (unit_at us i))) (λ j u. refl) 0 us)
 
 bare-drain : (us : List FunctionalUnit) (i : ℕ) → drain_blocked (map (bare_unit hide) us) i ≡ drain_blocked us i
 unfolding writing units
 bare-drain us i =
-    ap₂ (λ (u : FunctionalUnit) (b : Bool). cond (is_system u.class && b) (some drain) none) (bare-at us i)
+    ap₂ (λ (u : FunctionalUnit) (b : Bool). cond (is_system u.class && b) (Some drain) None) (bare-at us i)
     (any-at-map (bare_unit hide) (other_busy i) (other_busy i) (λ j u. refl) 0 us)
 
 bare-blocked : (us : List FunctionalUnit) (i : ℕ) → write_blocked (map (bare_unit hide) us) i ≡ write_blocked us i
 unfolding writing
 bare-blocked us i =
-    ap₂ or_else
+    ap₂ option_or
     (ap (λ (u : FunctionalUnit). war_reader (map (bare_unit hide) us) i u.destinations) (bare-at us i) ∙ bare-war us i (unit_at us i).destinations)
-    (ap₂ or_else (bare-memory us i) (bare-drain us i))
+    (ap₂ option_or (bare-memory us i) (bare-drain us i))
 
 bare-tries : (us : List FunctionalUnit) (qs : List (ℕ × ℕ)) → try_writes (map (bare_unit hide) us) qs ≡ try_writes us qs
 unfolding writing
@@ -99,32 +101,32 @@ bare-waits l ns xs =
 
 pub bare-oldest
     : (p : FunctionalUnit → Bool) → ((u : FunctionalUnit) → p (bare_unit hide u) ≡ p u) → (us : List FunctionalUnit)
-    → oldest p (map (bare_unit hide) us) ≡ omap (bare_unit hide) (oldest p us)
+    → oldest p (map (bare_unit hide) us) ≡ option_map (bare_unit hide) (oldest p us)
 unfolding views units
 bare-oldest p r [] = refl
 bare-oldest p r (u ∷ us) = rw (r u, bare-oldest p r us) (go (p u) (oldest p us))
   where
-    pick : (v : FunctionalUnit) (b : Bool) → cond b (some (bare_unit hide v)) (some (bare_unit hide u)) ≡ omap (bare_unit hide) (cond b (some v) (some u))
+    pick : (v : FunctionalUnit) (b : Bool) → cond b (Some (bare_unit hide v)) (Some (bare_unit hide u)) ≡ option_map (bare_unit hide) (cond b (Some v) (Some u))
     pick v true = refl
     pick v false = refl
 
     go
         : (b : Bool) (o : Option FunctionalUnit)
-        → cond b (older (bare_unit hide u)) (λ x. x) (omap (bare_unit hide) o) ≡ omap (bare_unit hide) (cond b (older u) (λ x. x) o)
-    go true none = refl
-    go true (some v) = pick v (ltb (seq_of v) (seq_of u))
-    go false none = refl
-    go false (some v) = refl
+        → cond b (older (bare_unit hide u)) (λ x. x) (option_map (bare_unit hide) o) ≡ option_map (bare_unit hide) (cond b (older u) (λ x. x) o)
+    go true None = refl
+    go true (Some v) = pick v (ltb (seq_of v) (seq_of u))
+    go false None = refl
+    go false (Some v) = refl
 
 -- The same, as what two lists with one bare form have in common.
 module _ (us vs : List FunctionalUnit) (h : map (bare_unit hide) us ≡ map (bare_unit hide) vs) where
   pub same-writable : writable_unit us ≡ writable_unit vs
   same-writable = sees-only (bare_unit hide) (bare_unit hide) writable_unit writable_unit (bare-writable) (bare-writable) us vs h
 
-  pub same-busy : any is_busy us ≡ any is_busy vs
+  pub same-busy : list_any is_busy us ≡ list_any is_busy vs
   unfolding units
   same-busy =
-      sees-only (bare_unit hide) (bare_unit hide) (any is_busy) (any is_busy) (any-map (bare_unit hide) is_busy is_busy (λ u. refl))
+      sees-only (bare_unit hide) (bare_unit hide) (list_any is_busy) (list_any is_busy) (any-map (bare_unit hide) is_busy is_busy (λ u. refl))
       (any-map (bare_unit hide) is_busy is_busy (λ u. refl)) us vs h
 
   pub same-free : (ks : List UnitSpec) (c : PipelineInstructionClass) → free_unit ks us c ≡ free_unit ks vs c
@@ -171,16 +173,16 @@ pub same-taken-out
     : (o : Option ℕ) (us vs : List FunctionalUnit) → map (bare_unit hide) us ≡ map (bare_unit hide) vs
     → map (bare_unit hide) (take_out o us) ≡ map (bare_unit hide) (take_out o vs)
 unfolding writing
-same-taken-out none us vs h = h
-same-taken-out (some i) us vs h =
+same-taken-out None us vs h = h
+same-taken-out (Some i) us vs h =
     same-modified us vs h i (with_busy false) (with_busy false) (with_busy false) (λ u. refl) (λ u. refl)
 
 pub same-put-back
     : (o : Option ℕ) (us vs : List FunctionalUnit) → map (bare_unit hide) us ≡ map (bare_unit hide) vs
     → map (bare_unit hide) (put_back o us) ≡ map (bare_unit hide) (put_back o vs)
 unfolding writing
-same-put-back none us vs h = h
-same-put-back (some i) us vs h =
+same-put-back None us vs h = h
+same-put-back (Some i) us vs h =
     same-modified us vs h i (with_busy true) (with_busy true) (with_busy true) (λ u. refl) (λ u. refl)
 
 -- ── The queue ───────────────────────────────────────────────────────────────

@@ -2,16 +2,17 @@
 use Prim.Native.Nat.{ℕ}
 use mathlib.Core.Path.{◌≡◌, refl, sym, ◌∙◌, ap, ap₂}
 use mathlib.Core.Bool.{Bool, true, false, not, ◌&&◌, ◌||◌}
-use mathlib.Core.Option.{Option, none, some}
+use Rattle.std.specs.Prelude.{Option, None, Some, option_map}
 use mathlib.Core.List.{List, [], ◌∷◌, ◌++◌, map}
 use lib.Dec.{ltb}
 use lib.ListN.{length}
 use Rattle.capability.specs.declared.PipelineHazardKind.{PipelineHazardKind}
 use Rattle.capability.specs.declared.PipelineHazardKind.TheVariants.{BranchFlush, FunctionalUnitBusy, WriteAfterWrite}
 use Rattle.capability.specs.declared.PipelineInstructionClass.{PipelineInstructionClass}
-use Rattle.laws.specs.Lists.{any, keep, modify}
+use Rattle.laws.specs.Lists.{keep, modify}
+use Rattle.std.specs.List.{list_any}
 use Rattle.laws.specs.Numbers.{saturating_add}
-use Rattle.laws.specs.Optional.{omap, when_some}
+use Rattle.laws.specs.Optional.{when_some}
 use Rattle.laws.specs.Texts.{Text}
 use Rattle.model.specs.Config.{UnitSpec, is_system, with_capacity, with_specs}
 use Rattle.model.specs.Issue.{block_issue, complete_at, complete_offer, flush, flushed_cell, free_unit, issue_looked, issue_to, issuing, learn, place, queue_cell, read_operands, record_timeline, redirect_writes, redirected, start_ready, taken, tick_execute, timeline_cells, timeline_writes, wait_trace, waits_on}
@@ -50,7 +51,7 @@ pub like-open : (s t : State) → Like s t → Like (open_cycle s) (open_cycle t
 unfolding units writing
 like-open s t h = λ i.
     state (h i).machine (same-mapped s.units t.units (like-units s t h) clear_hazard (λ u. refl) i)
-    (same-queued s.queue t.queue (like-queue s t h) (with_hazard none) (λ o. refl) i) (h i).names (h i).producer (h i).marks
+    (same-queued s.queue t.queue (like-queue s t h) (with_hazard None) (λ o. refl) i) (h i).names (h i).producer (h i).marks
     (h i).offer (open_cycle (h i)).front (open_cycle (h i)).log
 
 like-found : (x y : Tried) (s t : State) → x ≡ y → Like s t → Like (offer_found x s) (offer_found y t)
@@ -83,15 +84,15 @@ like-start s t h =
 -- ── Between start and advance ───────────────────────────────────────────────
 
 -- The operation on offer.
-pub bare-offered : (s : State) → offered_op (bare hide s) ≡ omap (bare_op hide) (offered_op s)
+pub bare-offered : (s : State) → offered_op (bare hide s) ≡ option_map (bare_op hide) (offered_op s)
 unfolding writing
 bare-offered s = go s.offer.writing
   where
     go
         : (x : Option ℕ)
-        → omap (λ (i : ℕ). (unit_at (map (bare_unit hide) s.units) i).op) x ≡ omap (bare_op hide) (omap (λ (i : ℕ). (unit_at s.units i).op) x)
-    go none = refl
-    go (some i) = ap (λ (u : FunctionalUnit). some u.op) (bare-at s.units i)
+        → option_map (λ (i : ℕ). (unit_at (map (bare_unit hide) s.units) i).op) x ≡ option_map (bare_op hide) (option_map (λ (i : ℕ). (unit_at s.units i).op) x)
+    go None = refl
+    go (Some i) = ap (λ (u : FunctionalUnit). Some u.op) (bare-at s.units i)
 
 bare-branch : (s : State) → offered_branch (bare hide s) ≡ offered_branch s
 unfolding writing
@@ -99,9 +100,9 @@ bare-branch s = ap (λ (x : Option Op). when_some x false (λ (o : Op). o.core.d
   where
     go
         : (x : Option Op)
-        → when_some (omap (bare_op hide) x) false (λ (o : Op). o.core.decoded.branch) ≡ when_some x false (λ (o : Op). o.core.decoded.branch)
-    go none = refl
-    go (some o) = refl
+        → when_some (option_map (bare_op hide) x) false (λ (o : Op). o.core.decoded.branch) ≡ when_some x false (λ (o : Op). o.core.decoded.branch)
+    go None = refl
+    go (Some o) = refl
 
 like-branch : (s t : State) → Like s t → offered_branch s ≡ offered_branch t
 like-branch s t h = sym (bare-branch s) ∙ ap offered_branch h ∙ bare-branch t
@@ -115,12 +116,12 @@ like-retire s t h = λ i.
     (h i).log.stats.load_use_stalls (h i).log.stats.branch_stalls (h i).log.stats.functional_unit_stalls
     (h i).log.stats.memory_stalls (h i).log.stats.waw_stalls (h i).log.stats.war_stalls (h i).log.stats.flushes
     (up (like-branch s t h i) (h i).log.stats.branches))
-    (h i).log.traces (h i).log.rows none)
+    (h i).log.traces (h i).log.rows None)
 
 pub like-retry : (m n : Text) (s t : State) → Like s t → Like (retry m s) (retry n t)
 unfolding writing
 like-retry m n s t h = λ i.
-    state (h i).machine (units' i) (h i).queue (h i).names (h i).producer (h i).marks (offer_of none false) (h i).front (h i).log
+    state (h i).machine (units' i) (h i).queue (h i).names (h i).producer (h i).marks (offer_of None false) (h i).front (h i).log
   where
     units' : map (bare_unit hide) (put_back s.offer.writing s.units) ≡ map (bare_unit hide) (put_back t.offer.writing t.units)
     units' =
@@ -131,7 +132,7 @@ pub like-stopped : (a b : Bool) (m n : Text) (s t : State) → Like s t → Like
 unfolding units writing
 like-stopped a b m n s t h = λ i.
     state (h i).machine (same-mapped s.units t.units (like-units s t h) clear (λ u. refl) i) [] (h i).names
-    (map (λ (p : Option ℕ). none) (h i).producer) (marks false false) (offer_of none false) (stopped a b m (h i)).front (h i).log
+    (map (λ (p : Option ℕ). None) (h i).producer) (marks false false) (offer_of None false) (stopped a b m (h i)).front (h i).log
 
 -- ── Advance, up to the issue ────────────────────────────────────────────────
 
@@ -140,7 +141,7 @@ unfolding units issuing registers
 like-complete_at n s t h = λ i.
     state (h i).machine (units' i) (h i).queue (h i).names (release_all n (h i).producer (at i).destinations)
     (marks (not (at i).redirects && (h i).marks.branch) (not (is_system (at i).class) && (h i).marks.system))
-    (offer_of none false) (h i).front (h i).log
+    (offer_of None false) (h i).front (h i).log
   where
     at : bare_unit hide (unit_at s.units n) ≡ bare_unit hide (unit_at t.units n)
     at = same_at s.units t.units (like-units s t h) n
@@ -155,8 +156,8 @@ unfolding issuing
 like-complete w v s t p h = go w ∙ ap (λ (x : Option ℕ). bare hide (complete_offer x t)) p
   where
     go : (x : Option ℕ) → Like (complete_offer x s) (complete_offer x t)
-    go none = h
-    go (some n) = like-complete_at n s t h
+    go None = h
+    go (Some n) = like-complete_at n s t h
 
 pub like-closed : (s t : State) → Like s t → Like (closed s) (closed t)
 unfolding scoreboard issuing
@@ -174,7 +175,7 @@ like-flush n s t h = λ i.
     (traces i)
     (same-pushed s.log.rows t.log.rows (like-rows s t h) (map flushed_cell s.queue) (map flushed_cell t.queue)
     (same-queue-cells s.queue t.queue (like-queue s t h) flushed_cell (λ o. refl)) i)
-    none)
+    None)
   where
     len : length s.queue ≡ length t.queue
     len = same_length s.queue t.queue (like-queue s t h)
@@ -189,8 +190,8 @@ like-flush n s t h = λ i.
 
 like-redirected : (r : Option ℕ) (s t : State) → Like s t → Like (redirected r s) (redirected r t)
 unfolding issuing
-like-redirected none s t h = h
-like-redirected (some n) s t h = like-flush n s t h
+like-redirected None s t h = h
+like-redirected (Some n) s t h = like-flush n s t h
 
 like-tick : (s t : State) → Like s t → Like (tick_execute s) (tick_execute t)
 unfolding units issuing
@@ -220,14 +221,14 @@ like-before r s t h =
 pub like-block : (k : PipelineHazardKind) (d e : Detail) (s t : State) → Like s t → Like (block_issue k d s) (block_issue k e t)
 unfolding issuing engine
 like-block k d e s t h = λ i.
-    state (h i).machine (h i).units (same-front s.queue t.queue (like-queue s t h) (with_hazard (some k)) (λ o. refl) i) (h i).names
+    state (h i).machine (h i).units (same-front s.queue t.queue (like-queue s t h) (with_hazard (Some k)) (λ o. refl) i) (h i).names
     (h i).producer (h i).marks (h i).offer (h i).front
     (same-stalled (trace_of k 1 0 d ∷ []) (trace_of k 1 0 e ∷ []) s.log t.log refl (like-log s t h) i)
 
 pad-bare : (ps : List (Option ℕ)) (ns : List Text) → pad ps (map blank ns) ≡ pad ps ns
 unfolding registers
 pad-bare ps [] = refl
-pad-bare [] (n ∷ ns) = ap (λ (l : List (Option ℕ)). none ∷ l) (pad-bare [] ns)
+pad-bare [] (n ∷ ns) = ap (λ (l : List (Option ℕ)). None ∷ l) (pad-bare [] ns)
 pad-bare (p ∷ ps) (n ∷ ns) = ap (λ (l : List (Option ℕ)). p ∷ l) (pad-bare ps ns)
 
 like-learn : (ms ns : List Text) (s t : State) → map blank ms ≡ map blank ns → Like s t → Like (learn ms s) (learn ns t)
@@ -257,9 +258,9 @@ like-issue-to
     : (o p : Op) (rest rest' : List Op) (r w : List ℕ) (tk fr : Option ℕ) (s t : State) → bare_op hide o ≡ bare_op hide p → map (bare_op hide) rest ≡ map (bare_op hide) rest'
     → Like s t → Like (issue_to o rest r w tk fr s) (issue_to p rest' r w tk fr t)
 unfolding issuing
-like-issue-to o p rest rest' r w (some x) fr s t e f h = like-block WriteAfterWrite _ _ s t h
-like-issue-to o p rest rest' r w none none s t e f h = like-block FunctionalUnitBusy _ _ s t h
-like-issue-to o p rest rest' r w none (some n) s t e f h = like-place o p rest rest' r w n s t e f h
+like-issue-to o p rest rest' r w (Some x) fr s t e f h = like-block WriteAfterWrite _ _ s t h
+like-issue-to o p rest rest' r w None None s t e f h = like-block FunctionalUnitBusy _ _ s t h
+like-issue-to o p rest rest' r w None (Some n) s t e f h = like-place o p rest rest' r w n s t e f h
 
 pub like-looked
     : (o p : Op) (rest rest' : List Op) (x y : Operands) (s t : State) → bare_op hide o ≡ bare_op hide p → map (bare_op hide) rest ≡ map (bare_op hide) rest'
@@ -294,7 +295,7 @@ unfolding issuing timeline
 like-timeline s t h = λ i.
     with_log
     (log_of (h i).log.stats (h i).log.traces
-    (same-pushed s.log.rows t.log.rows (like-rows s t h) (timeline_cells s) (timeline_cells t) (like-cells s t h) i) none)
+    (same-pushed s.log.rows t.log.rows (like-rows s t h) (timeline_cells s) (timeline_cells t) (like-cells s t h) i) None)
     (h i)
 
 -- The bytes of the cell memory that are set.
@@ -306,8 +307,8 @@ like-timeline_writes s t h =
 
 pub like-redirect_writes : (r : Option ℕ) (s t : State) → Like s t → redirect_writes r s ≡ redirect_writes r t
 unfolding issuing
-like-redirect_writes none s t h = refl
-like-redirect_writes (some n) s t h =
+like-redirect_writes None s t h = refl
+like-redirect_writes (Some n) s t h =
     same-written s.log.rows t.log.rows (like-rows s t h) s.machine.history t.machine.history (map flushed_cell s.queue)
     (map flushed_cell t.queue) (λ i. (h i).machine.history)
     (same-queue-cells s.queue t.queue (like-queue s t h) flushed_cell (λ o. refl))
@@ -338,7 +339,7 @@ pub like-fetched
 unfolding scoreboard timeline
 like-fetched d x y s t e f h = λ i.
     state (h i).machine (h i).units (queue' i) (h i).names (h i).producer (h i).marks (h i).offer
-    (fetched (given d (bare_info blank x)) (h i)).front (log_of (h i).log.stats (h i).log.traces (rows' i) none)
+    (fetched (given d (bare_info blank x)) (h i)).front (log_of (h i).log.stats (h i).log.traces (rows' i) None)
   where
     g : Given
     g = given d x
@@ -349,7 +350,7 @@ like-fetched d x y s t e f h = λ i.
     queue' : map (bare_op hide) (s.queue ++ (fetched_op g s ∷ [])) ≡ map (bare_op hide) (t.queue ++ (fetched_op k t ∷ []))
     queue' =
         map-append (bare_op hide) s.queue (fetched_op g s ∷ [])
-        ∙ (λ i. (h i).queue ++ (fetched_op (given d (info_of [] none none (e i) (f i) 0)) (h i) ∷ []))
+        ∙ (λ i. (h i).queue ++ (fetched_op (given d (info_of [] None None (e i) (f i) 0)) (h i) ∷ []))
         ∙ sym (map-append (bare_op hide) t.queue (fetched_op k t ∷ []))
 
     opened : State → Info → Row
@@ -374,10 +375,10 @@ like-capacity k n s t h = λ i.
     go false ks = refl
 
     units'
-        : map (bare_unit hide) (rebuilt (any is_busy s.units) (modify k (with_capacity n) s.machine.specs) s.units)
-        ≡ map (bare_unit hide) (rebuilt (any is_busy t.units) (modify k (with_capacity n) t.machine.specs) t.units)
+        : map (bare_unit hide) (rebuilt (list_any is_busy s.units) (modify k (with_capacity n) s.machine.specs) s.units)
+        ≡ map (bare_unit hide) (rebuilt (list_any is_busy t.units) (modify k (with_capacity n) t.machine.specs) t.units)
     units' =
-        go (any is_busy s.units) (modify k (with_capacity n) s.machine.specs)
+        go (list_any is_busy s.units) (modify k (with_capacity n) s.machine.specs)
         ∙ (λ i. map (bare_unit hide) (rebuilt (same-busy s.units t.units (like-units s t h) i) (modify k (with_capacity n) (h i).machine.specs) t.units))
 
 pub like-enabled : (b : Bool) (s t : State) → Like s t → Like (set_enabled b s) (set_enabled b t)

@@ -2,10 +2,10 @@
 use Prim.Native.Nat.{ℕ}
 use mathlib.Core.Path.{◌≡◌, refl, sym, ◌∙◌, ap, subst}
 use mathlib.Core.Bool.{true, false}
-use mathlib.Core.Option.{Option, none, some}
+use Rattle.std.specs.Prelude.{Option, None, Some, slice_get}
 use mathlib.Core.List.{List, [], ◌∷◌, ◌++◌}
 use lib.ListN.{length, replicate}
-use Rattle.laws.specs.Lists.{All, All2, none2, more2, nth, lists}
+use Rattle.laws.specs.Lists.{All, All2, none2, more2, lists}
 use Rattle.laws.specs.Texts.{Text, same, bytes, texts}
 use Rattle.laws.proofs.Choices.{false-T}
 use Rattle.laws.proofs.Same.{same-of-eq}
@@ -52,7 +52,7 @@ looks-first = refl
 
 -- ── The premises hold ───────────────────────────────────────────────────────
 
-pub made : make_refusal sample (length lent) ≡ none
+pub made : make_refusal sample (length lent) ≡ None
 unfolding everything
 made = refl
 
@@ -72,8 +72,8 @@ alike x y t x' y' t' p p' =
     begin : Alike start start
     begin = same_call start tt
 
-    next : Alike (advance none 800) (advance none 800)
-    next = same_call (advance none 800) tt
+    next : Alike (advance None 800) (advance None 800)
+    next = same_call (advance None 800) tt
 
     z : List Text
     z = bytes "z" ∷ []
@@ -86,7 +86,7 @@ alike x y t x' y' t' p p' =
 
 -- In all three only the sixth call is refused.
 abbrev one-refused : List (Option ℕ)
-one-refused = replicate 5 none ++ (some 4 ∷ replicate 30 none)
+one-refused = replicate 5 None ++ (Some 4 ∷ replicate 30 None)
 
 refused_first : refusals the_engine (new sample 0) first ≡ one-refused
 unfolding everything refusals
@@ -142,7 +142,7 @@ exchange-carries =
     ((none2, more2 y-x none2), ((more2 y-x (more2 x-y none2), more2 z-z none2), ((none2, more2 x-y none2), tt)))))
   where
     at : List Info → List Info → ℕ → Type 0
-    at is js n = CarriesAt exchange (nth is n) (nth js n)
+    at is js n = CarriesAt exchange (slice_get is n) (slice_get js n)
 
     x-y : exchange (bytes "x") (bytes "y")
     x-y = (0, refl, refl)

@@ -2,10 +2,11 @@
 use Prim.Native.Nat.{ℕ}
 use mathlib.Core.Path.{◌≡◌, refl, sym, ◌∙◌, ap, ap₂, subst}
 use mathlib.Core.Bool.{Bool, true, false, cond, ◌||◌}
-use mathlib.Core.Option.{Option, none, some}
+use Rattle.std.specs.Prelude.{Option, None, Some, slice_get}
 use mathlib.Core.List.{List, [], ◌∷◌, map}
 use lib.Dec.{T, eqb, eqb→eq}
-use Rattle.laws.specs.Lists.{All, All2, any, elem, more2, none2, nth}
+use Rattle.laws.specs.Lists.{All, All2, elem, more2, none2}
+use Rattle.std.specs.List.{list_any}
 use Rattle.laws.specs.Texts.{Text}
 use Rattle.model.specs.Op.{Info, Op, info_of, op_of}
 use Rattle.model.specs.Registers.{get}
@@ -53,7 +54,6 @@ or-T true b f g t = f tt
 or-T false b f g t = g t
 
 pub all-elem : (P : ℕ → Type 0) (n : ℕ) (l : List ℕ) → All P l → T (elem n l) → P n
-unfolding any
 all-elem P n [] p t = absurd t
 all-elem P n (m ∷ l) p t =
     or-T (eqb n m) (elem n l) (λ u. subst P (sym (eqb→eq n m u)) p.0) (λ u. all-elem P n l p.1 u) t
@@ -74,17 +74,17 @@ module _ (r : Text → Text → Type 0) (one : OneToOne r) (ns ms : List Text) (
   list-shown true bs cs f e = names-shown bs cs (f tt)
   list-shown false bs cs f e = e
 
-  module _ (is js : List Info) (seen : List ℕ) (past : All (λ (n : ℕ). CarriesAt r (nth is n) (nth js n)) seen) where
+  module _ (is js : List Info) (seen : List ℕ) (past : All (λ (n : ℕ). CarriesAt r (slice_get is n) (slice_get js n)) seen) where
     abbrev ShownAlike : ℕ → Info → Info → Type 0
     ShownAlike n i j =
         (map (by_number ns seen n) i.sources ≡ map (by_number ms seen n) j.sources)
         × (map (by_number ns seen n) i.writes ≡ map (by_number ms seen n) j.writes)
 
-    carried : (n : ℕ) (i j : Info) → nth is n ≡ some i → nth js n ≡ some j → T (elem n seen) → Carries r i j
+    carried : (n : ℕ) (i j : Info) → slice_get is n ≡ Some i → slice_get js n ≡ Some j → T (elem n seen) → Carries r i j
     carried n i j p q t =
-        subst (λ (y : Option Info). CarriesAt r (some i) y) q
-        (subst (λ (x : Option Info). CarriesAt r x (nth js n)) p
-        (all-elem (λ (m : ℕ). CarriesAt r (nth is m) (nth js m)) n seen past t))
+        subst (λ (y : Option Info). CarriesAt r (Some i) y) q
+        (subst (λ (x : Option Info). CarriesAt r x (slice_get js n)) p
+        (all-elem (λ (m : ℕ). CarriesAt r (slice_get is m) (slice_get js m)) n seen past t))
 
     -- Nothing is read and nothing written.
     both-empty
@@ -111,7 +111,7 @@ module _ (r : Text → Text → Type 0) (one : OneToOne r) (ns ms : List Text) (
     op-shown
         : (o p : Op) → Known is o.core.seq o.info → Known js p.core.seq p.info → bare_op hide o ≡ bare_op hide p
         → bare_op (by_number ns seen) o ≡ bare_op (by_number ms seen) p
-    op-shown o p k l e = λ i. op_of (e i).core (info_of [] none none (reads i) (writes i) 0)
+    op-shown o p k l e = λ i. op_of (e i).core (info_of [] None None (reads i) (writes i) 0)
       where
         seqs : o.core.seq ≡ p.core.seq
         seqs = λ i. (e i).core.seq
@@ -153,7 +153,7 @@ module _ (w : Shows) where
   hide-op : (o : Op) → bare_op hide (bare_op w o) ≡ bare_op hide o
   hide-op o = λ i.
       op_of o.core
-      (info_of [] none none (map-blank (w o.core.seq) o.info.sources i) (map-blank (w o.core.seq) o.info.writes i) 0)
+      (info_of [] None None (map-blank (w o.core.seq) o.info.sources i) (map-blank (w o.core.seq) o.info.writes i) 0)
 
   hide-queue : (q : List Op) → map (bare_op hide) (map (bare_op w) q) ≡ map (bare_op hide) q
   hide-queue [] = refl

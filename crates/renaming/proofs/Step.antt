@@ -2,11 +2,11 @@
 use Prim.Native.Nat.{ℕ}
 use mathlib.Core.Path.{◌≡◌, refl, sym, ◌∙◌, ap, ap₂, subst}
 use mathlib.Core.Bool.{Bool, true, false, cond, true≢false, false≢true}
-use mathlib.Core.Option.{Option, none, some}
+use Rattle.std.specs.Prelude.{Option, None, Some, option_map}
 use mathlib.Core.List.{List, [], ◌∷◌, ◌++◌, map}
 use Rattle.capability.specs.declared.PipelineHazardKind.TheVariants.{BranchFlush, FunctionalUnitBusy}
 use Rattle.laws.specs.Lists.{All2}
-use Rattle.laws.specs.Optional.{omap, when_some}
+use Rattle.laws.specs.Optional.{when_some}
 use Rattle.laws.specs.Texts.{Text}
 use Rattle.model.specs.Calls.{Call, advance as advance-call, after, answer, calls, capacity, cell, fault as fault-call, fetch, halt as halt-call, invitation, invitation_of, looked, looked_by, memory_after, offered, overlap, redirect, refusal, refused, reply, reset, resolve as resolve-call, retire, retry as retry-call, run, sets, resolved, shown_cell, shown_text, start, text, view}
 use Rattle.model.specs.Issue.{issue, issue_choose, issue_front, issuing, look, look_choose, look_front, looked_at, redirect_writes, timeline_writes}
@@ -32,33 +32,33 @@ use Rattle.renaming.specs.Renaming.{Carries, OneToOne}
 
 -- ── What is looked at ───────────────────────────────────────────────────────
 
-bare-look_choose : (b y : Bool) (o : Op) → omap (bare_op hide) (look_choose b y o) ≡ look_choose b y (bare_op hide o)
+bare-look_choose : (b y : Bool) (o : Op) → option_map (bare_op hide) (look_choose b y o) ≡ look_choose b y (bare_op hide o)
 unfolding issuing
 bare-look_choose true y o = refl
 bare-look_choose false true o = refl
 bare-look_choose false false o = refl
 
-bare-look : (q : List Op) (p : Marks) → omap (bare_op hide) (look_front q p) ≡ look_front (map (bare_op hide) q) p
+bare-look : (q : List Op) (p : Marks) → option_map (bare_op hide) (look_front q p) ≡ look_front (map (bare_op hide) q) p
 unfolding issuing
 bare-look [] p = refl
 bare-look (o ∷ q) p = bare-look_choose p.branch p.system o
 
-like-looked_at : (s t : State) → Like s t → omap (bare_op hide) (looked_at s) ≡ omap (bare_op hide) (looked_at t)
+like-looked_at : (s t : State) → Like s t → option_map (bare_op hide) (looked_at s) ≡ option_map (bare_op hide) (looked_at t)
 unfolding issuing
 like-looked_at s t h = bare-look s.queue s.marks ∙ (λ i. look_front (h i).queue (h i).marks) ∙ sym (bare-look t.queue t.marks)
 
-like-advance_looked : (r : Option ℕ) (s t : State) → Like s t → omap (bare_op hide) (advance_looked r s) ≡ omap (bare_op hide) (advance_looked r t)
+like-advance_looked : (r : Option ℕ) (s t : State) → Like s t → option_map (bare_op hide) (advance_looked r s) ≡ option_map (bare_op hide) (advance_looked r t)
 unfolding scoreboard
-like-advance_looked r s t h = go (stops s) ∙ (λ i. omap (bare_op hide) (cond (stops (h i)) none (looked_at (before_issue r (closed t)))))
+like-advance_looked r s t h = go (stops s) ∙ (λ i. option_map (bare_op hide) (cond (stops (h i)) None (looked_at (before_issue r (closed t)))))
   where
     go
         : (b : Bool)
-        → omap (bare_op hide) (cond b none (looked_at (before_issue r (closed s)))) ≡ omap (bare_op hide) (cond b none (looked_at (before_issue r (closed t))))
+        → option_map (bare_op hide) (cond b None (looked_at (before_issue r (closed s)))) ≡ option_map (bare_op hide) (cond b None (looked_at (before_issue r (closed t))))
     go true = refl
     go false =
         like-looked_at (before_issue r (closed s)) (before_issue r (closed t)) (like-before r (closed s) (closed t) (like-closed s t h))
 
-like-sees : (s t : State) (c d : Call) → Alike c d → Like s t → omap (bare_op hide) (looked s c) ≡ omap (bare_op hide) (looked t d)
+like-sees : (s t : State) (c d : Call) → Alike c d → Like s t → option_map (bare_op hide) (looked s c) ≡ option_map (bare_op hide) (looked t d)
 unfolding calls
 like-sees s t c d (same_call start n) h = refl
 like-sees s t c d (same_call retire n) h = refl
@@ -84,20 +84,20 @@ like-sees s t c d (text_requests x m k) h = refl
 
 -- What holds where both are accepted, and where both are refused, holds.
 pub by-refusal
-    : (P : Option ℕ → Option ℕ → Type 0) (x y : Option ℕ) → x ≡ y → (x ≡ none → y ≡ none → P none none) → ((n : ℕ) → P (some n) (some n)) → P x y
-by-refusal P none none e f g = f refl refl
-by-refusal P none (some m) e f g = none-some m e
-by-refusal P (some n) none e f g = none-some n (sym e)
-by-refusal P (some n) (some m) e f g = subst (λ (k : ℕ). P (some n) (some k)) (some_inj n m e) (g n)
+    : (P : Option ℕ → Option ℕ → Type 0) (x y : Option ℕ) → x ≡ y → (x ≡ None → y ≡ None → P None None) → ((n : ℕ) → P (Some n) (Some n)) → P x y
+by-refusal P None None e f g = f refl refl
+by-refusal P None (Some m) e f g = none-some m e
+by-refusal P (Some n) None e f g = none-some n (sym e)
+by-refusal P (Some n) (Some m) e f g = subst (λ (k : ℕ). P (Some n) (Some k)) (some_inj n m e) (g n)
 
 pub like-looked-by
     : (s t : State) (c d : Call) → Alike c d → refusal s c ≡ refusal t d → Like s t
-    → omap (bare_op hide) (looked_by s c) ≡ omap (bare_op hide) (looked_by t d)
+    → option_map (bare_op hide) (looked_by s c) ≡ option_map (bare_op hide) (looked_by t d)
 unfolding calls
 like-looked-by s t c d a e h =
     by-refusal
     (λ x y.
-    omap (bare_op hide) (when_some x (looked s c) (λ (n : ℕ). none)) ≡ omap (bare_op hide) (when_some y (looked t d) (λ (n : ℕ). none)))
+    option_map (bare_op hide) (when_some x (looked s c) (λ (n : ℕ). None)) ≡ option_map (bare_op hide) (when_some y (looked t d) (λ (n : ℕ). None)))
     (refusal s c) (refusal t d) e (λ p q. like-sees s t c d a h) (λ n. refl)
 
 -- ── With what is looked at renamed ──────────────────────────────────────────
@@ -105,10 +105,10 @@ like-looked-by s t c d a e h =
 module _ (r : Text → Text → Type 0) where
   -- Nothing is looked at, or two operations of one number that the renaming carries into one another.
   abbrev pub Matched : Option Op → Option Op → Type 0
-  Matched none none = Unit {0}
-  Matched none (some p) = ⊥
-  Matched (some o) none = ⊥
-  Matched (some o) (some p) = (o.core.seq ≡ p.core.seq) × Carries r o.info p.info
+  Matched None None = Unit {0}
+  Matched None (Some p) = ⊥
+  Matched (Some o) None = ⊥
+  Matched (Some o) (Some p) = (o.core.seq ≡ p.core.seq) × Carries r o.info p.info
 
 -- Lists of one length, their names left out.
 as_many : (xs ys : List Text) → length xs ≡ length ys → map blank xs ≡ map blank ys
@@ -178,7 +178,7 @@ module _ (r : Text → Text → Type 0) (one : OneToOne r) where
     where
       go
           : (b c : Bool) → b ≡ c
-          → Matched r (cond b none (looked_at (before_issue x (closed s)))) (cond c none (looked_at (before_issue x (closed t))))
+          → Matched r (cond b None (looked_at (before_issue x (closed s)))) (cond c None (looked_at (before_issue x (closed t))))
           → Like (cond b (closed s) (after_issue (issue (before_issue x (closed s))))) (cond c (closed t) (after_issue (issue (before_issue x (closed t)))))
       go true true e m = like-closed s t h
       go true false e m = absurd (true≢false e)
@@ -194,7 +194,7 @@ module _ (r : Text → Text → Type 0) (one : OneToOne r) where
     where
       go
           : (b c : Bool) → b ≡ c
-          → Matched r (cond b none (looked_at (before_issue x (closed s)))) (cond c none (looked_at (before_issue x (closed t))))
+          → Matched r (cond b None (looked_at (before_issue x (closed s)))) (cond c None (looked_at (before_issue x (closed t))))
           → cond b [] (redirect_writes x (closed s) ++ timeline_writes (issue (before_issue x (closed s))))
           ≡ cond c [] (redirect_writes x (closed t) ++ timeline_writes (issue (before_issue x (closed t))))
       go true true e m = refl
@@ -261,7 +261,7 @@ module _ (r : Text → Text → Type 0) (one : OneToOne r) where
   after-like s t c d a e h u =
       by-refusal
       (λ x y.
-      Matched r (when_some x (looked s c) (λ (n : ℕ). none)) (when_some y (looked t d) (λ (n : ℕ). none))
+      Matched r (when_some x (looked s c) (λ (n : ℕ). None)) (when_some y (looked t d) (λ (n : ℕ). None))
       → Like (when_some x (run s c) (λ (n : ℕ). s)) (when_some y (run t d) (λ (n : ℕ). t)))
       (refusal s c) (refusal t d) e (λ p q k. run-like s t c d a h u k) (λ n k. h)
 
@@ -272,7 +272,7 @@ module _ (r : Text → Text → Type 0) (one : OneToOne r) where
   memory-same s t c d a e h u m =
       by-refusal
       (λ x y.
-      Matched r (when_some x (looked s c) (λ (n : ℕ). none)) (when_some y (looked t d) (λ (n : ℕ). none))
+      Matched r (when_some x (looked s c) (λ (n : ℕ). None)) (when_some y (looked t d) (λ (n : ℕ). None))
       → when_some x (write_all (sets s c) m) (λ (n : ℕ). m) ≡ when_some y (write_all (sets t d) m) (λ (n : ℕ). m))
       (refusal s c) (refusal t d) e (λ p q k. ap (λ ws. write_all ws m) (sets_same s t c d a h u k)) (λ n k. refl)
 
@@ -280,45 +280,45 @@ module _ (r : Text → Text → Type 0) (one : OneToOne r) where
       : (ns ms : List Text) (x y : Option Op) → All2 r ns ms → Matched r x y
       → when_some x [] (λ (o : Op). look ns o ∷ []) ≡ when_some y [] (λ (o : Op). look ms o ∷ [])
   unfolding issuing
-  looks-same ns ms none none u k = refl
-  looks-same ns ms none (some p) u k = absurd k
-  looks-same ns ms (some o) none u k = absurd k
-  looks-same ns ms (some o) (some p) u k =
+  looks-same ns ms None None u k = refl
+  looks-same ns ms None (Some p) u k = absurd k
+  looks-same ns ms (Some o) None u k = absurd k
+  looks-same ns ms (Some o) (Some p) u k =
       let x = resolve-renamed r one ns ms o.info p.info u k.1 in
       λ i. (k.0 i, x.0 i ++ x.1 i) ∷ []
 
   pub learned-alike
       : (ns ms : List Text) (x y : Option Op) → All2 r ns ms → Matched r x y → All2 r (learn-from ns x) (learn-from ms y)
-  learned-alike ns ms none none u k = u
-  learned-alike ns ms none (some p) u k = absurd k
-  learned-alike ns ms (some o) none u k = absurd k
-  learned-alike ns ms (some o) (some p) u k = (resolve-renamed r one ns ms o.info p.info u k.1).2
+  learned-alike ns ms None None u k = u
+  learned-alike ns ms None (Some p) u k = absurd k
+  learned-alike ns ms (Some o) None u k = absurd k
+  learned-alike ns ms (Some o) (Some p) u k = (resolve-renamed r one ns ms o.info p.info u k.1).2
 
 -- ── The answer ──────────────────────────────────────────────────────────────
 
 -- The offer, without its payload.
-bare-offers : (s : State) → omap bare_offer (omap offer_view (offered_op (bare hide s))) ≡ omap bare_offer (omap offer_view (offered_op s))
+bare-offers : (s : State) → option_map bare_offer (option_map offer_view (offered_op (bare hide s))) ≡ option_map bare_offer (option_map offer_view (offered_op s))
 unfolding views
-bare-offers s = ap (λ (x : Option Op). omap bare_offer (omap offer_view x)) (bare-offered s) ∙ go (offered_op s)
+bare-offers s = ap (λ (x : Option Op). option_map bare_offer (option_map offer_view x)) (bare-offered s) ∙ go (offered_op s)
   where
-    go : (x : Option Op) → omap bare_offer (omap offer_view (omap (bare_op hide) x)) ≡ omap bare_offer (omap offer_view x)
-    go none = refl
-    go (some o) = refl
+    go : (x : Option Op) → option_map bare_offer (option_map offer_view (option_map (bare_op hide) x)) ≡ option_map bare_offer (option_map offer_view x)
+    go None = refl
+    go (Some o) = refl
 
 bare-resolved : (a : ℕ) (s : State) → resolve_branch (offered_op (bare hide s)) a ≡ resolve_branch (offered_op s) a
 unfolding writing
 bare-resolved a s = ap (λ (x : Option Op). resolve_branch x a) (bare-offered s) ∙ go (offered_op s)
   where
-    go : (x : Option Op) → resolve_branch (omap (bare_op hide) x) a ≡ resolve_branch x a
-    go none = refl
-    go (some o) = refl
+    go : (x : Option Op) → resolve_branch (option_map (bare_op hide) x) a ≡ resolve_branch x a
+    go None = refl
+    go (Some o) = refl
 
 reply-same
     : (s t : State) (m : List ℕ) (c d : Call) → Alike c d → Like s t → Like (run s c) (run t d)
     → bare_answer c (reply s m c) ≡ bare_answer d (reply t m d)
 unfolding calls bare_answer
 reply-same s t m c d (same_call start n) h k =
-    ap offered (sees (λ x. omap bare_offer (omap offer_view (offered_op x))) bare-offers (start_cycle s) (start_cycle t) k)
+    ap offered (sees (λ x. option_map bare_offer (option_map offer_view (offered_op x))) bare-offers (start_cycle s) (start_cycle t) k)
 reply-same s t m c d (same_call retire n) h k = refl
 reply-same s t m c d (same_call (retry-call x) n) h k = refl
 reply-same s t m c d (same_call (resolve-call a) n) h k =
@@ -332,7 +332,7 @@ reply-same s t m c d (same_call (fault-call x) n) h k = refl
 reply-same s t m c d (same_call (reset a ml) n) h k = absurd n
 reply-same s t m c d (same_call (redirect a) n) h k = absurd n
 reply-same s t m c d (same_call (view v) n) h k = ap (bare_answer (view v)) (same-shown v s t h)
-reply-same s t m c d (same_call (cell i j ml) n) h k = ap (λ (b : Option ℕ). shown_cell (omap cell_view b)) (same_byte m i j s t h)
+reply-same s t m c d (same_call (cell i j ml) n) h k = ap (λ (b : Option ℕ). shown_cell (option_map cell_view b)) (same_byte m i j s t h)
 reply-same s t m c d (same_call (text x l) n) h k = ap shown_text (same-there x s t h)
 reply-same s t m c d (fetches g x y ml e f) h k = refl
 reply-same s t m c d (retries l n) h k = refl

@@ -9,10 +9,10 @@
 use Prim.Native.Nat.{ℕ}
 use mathlib.Core.Path.{◌≡◌, refl, sym, ap, subst}
 use mathlib.Core.Bool.{Bool, false, true≢false}
-use mathlib.Core.Option.{none}
+use Rattle.std.specs.Prelude.{None, slice_get}
 use mathlib.Core.List.{List, [], ◌∷◌}
 use lib.ListN.{length}
-use Rattle.laws.specs.Lists.{All, All2, lists, none2, more2, nth}
+use Rattle.laws.specs.Lists.{All, All2, lists, none2, more2}
 use Rattle.laws.specs.Optional.{when_some}
 use Rattle.laws.proofs.Choices.{false-T}
 use Rattle.laws.proofs.Same.{same-of-eq}
@@ -55,7 +55,7 @@ idle-passes s m cs ds alike refused = (
   λ e. (
     itself,
     itself-one,
-    subst (All (λ (n : ℕ). CarriesAt itself (nth (operations idle s cs) n) (nth (operations idle s ds) n))) (sym (idle-none s cs)) tt,
+    subst (All (λ (n : ℕ). CarriesAt itself (slice_get (operations idle s cs) n) (slice_get (operations idle s ds) n))) (sym (idle-none s cs)) tt,
   ),
   λ x. idle-equal s m cs ds alike,
 )
@@ -73,12 +73,12 @@ idle-fails-half f = joined-not-carried (f (idle-equal (new sample 0) (make_memor
 reads-alike : (vs ws : List Text) (p q : ℕ) → length vs ≡ length ws → All2 Alike (unlooked vs p) (unlooked ws q)
 reads-alike vs ws p q e =
     more2 (same_call start tt)
-    (more2 (same_call (advance none 200) tt)
-    (more2 (fetches (decoded 0 4 Alu false false) (info_of [] none none [] vs p) (info_of [] none none [] ws q) 200 refl e) none2))
+    (more2 (same_call (advance None 200) tt)
+    (more2 (fetches (decoded 0 4 Alu false false) (info_of [] None None [] vs p) (info_of [] None None [] ws q) 200 refl e) none2))
 
 -- Whether overlap is on after the third call.
 abbrev on-at-last : List Entry → Bool
-on-at-last es = when_some (nth es 2) false (λ (x : Entry). x.left.front.enabled)
+on-at-last es = when_some (slice_get es 2) false (λ (x : Entry). x.left.front.enabled)
 
 payload-read : RenamingRule (reading payload_is_1) (new small 0) [] (unlooked [] 1) (unlooked [] 0) → ⊥
 unfolding everything recording refusals operations looked_numbers bare_answer
@@ -101,8 +101,8 @@ all-0-fails rule =
     let x =
     (rule
     (more2
-    (fetches (decoded 0 4 Alu false false) (info_of [] none none [] (bytes "x" ∷ bytes "x" ∷ []) 0)
-    (info_of [] none none [] (bytes "x" ∷ bytes "y" ∷ []) 0) 200 refl refl)
+    (fetches (decoded 0 4 Alu false false) (info_of [] None None [] (bytes "x" ∷ bytes "x" ∷ []) 0)
+    (info_of [] None None [] (bytes "x" ∷ bytes "y" ∷ []) 0) 200 refl refl)
     none2)
     refl
     ).0 refl in

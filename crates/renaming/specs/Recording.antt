@@ -2,10 +2,8 @@
 -- each look gave", and the pairs of lists of calls that it compares.
 -- Left out as texts (document 01, "Registers"): wait texts, every text's length, the buffers lent for texts, status, shown destinations, and
 -- names in operations not yet looked at. Fault notes given to fetch are left out likewise.
-use Rattle.std.specs.Prelude.{ℕ, ◌≡◌, Bool, true, false, cond, List, [], ◌∷◌, ◌++◌, map, length}
-use Rattle.std.proofs.Math.Option.{Option, none, some}
+use Rattle.std.specs.Prelude.{ℕ, ◌≡◌, Bool, true, false, cond, List, [], ◌∷◌, ◌++◌, map, length, Option, None, Some, option_map}
 use Rattle.laws.specs.Lists.{elem}
-use Rattle.laws.specs.Optional.{omap}
 use Rattle.laws.specs.Texts.{Text}
 use Rattle.model.specs.Op.{Decoded, Info, info_of, given, Op, op_of}
 use Rattle.model.specs.Registers.{get}
@@ -14,69 +12,8 @@ use Rattle.model.specs.Traces.{Trace, trace_of, drains}
 use Rattle.model.specs.Units.{FunctionalUnit, unit_of}
 use Rattle.model.specs.State.{Log, log_of, State, state}
 use Rattle.model.specs.Views.{OfferView}
-use Rattle.model.specs.Requests.{
-  Field,
-  disassembly,
-  destination,
-  fault as fault_note,
-  source,
-  write,
-  Request,
-  status_message,
-  slot_text,
-  trace_detail,
-  row_disassembly,
-  stage_name,
-  unit_name,
-  station_label,
-  rename_register,
-  cell_label,
-  operand_register,
-}
-use Rattle.model.specs.Calls.{
-  Call,
-  start,
-  retire,
-  retry,
-  resolve,
-  advance,
-  fetch,
-  capacity,
-  overlap,
-  halt,
-  fault,
-  reset,
-  redirect,
-  view,
-  cell,
-  text,
-  Answer,
-  refused,
-  done,
-  offered,
-  resolved,
-  invitation,
-  shown_status,
-  shown_stats,
-  shown_flag,
-  shown_number,
-  shown_stages,
-  shown_edges,
-  shown_stage,
-  shown_unit,
-  shown_trace,
-  shown_row,
-  shown_cell,
-  shown_station,
-  shown_rename,
-  shown_slot,
-  shown_text,
-  refusal,
-  answer,
-  after,
-  memory_after,
-  looks,
-}
+use Rattle.model.specs.Requests.{Field, disassembly, destination, fault as fault_note, source, write, Request, status_message, slot_text, trace_detail, row_disassembly, stage_name, unit_name, station_label, rename_register, cell_label, operand_register}
+use Rattle.model.specs.Calls.{Call, start, retire, retry, resolve, advance, fetch, capacity, overlap, halt, fault, reset, redirect, view, cell, text, Answer, refused, done, offered, resolved, invitation, shown_status, shown_stats, shown_flag, shown_number, shown_stages, shown_edges, shown_stage, shown_unit, shown_trace, shown_row, shown_cell, shown_station, shown_rename, shown_slot, shown_text, refusal, answer, after, memory_after, looks}
 use Rattle.runs.specs.Runs.{look_number, NoReset}
 
 -- ── The engine that a call leaves, bare ─────────────────────────────────────
@@ -91,8 +28,8 @@ blank a = []
 
 -- A register as its number: k stands as the text of k alone.
 abbrev pub as_number : Option ℕ → Text
-as_number none = []
-as_number (some k) = k ∷ []
+as_number None = []
+as_number (Some k) = k ∷ []
 
 -- In the operations looked at, whose numbers `seen` has, by the table of names. In the others names are left out.
 abbrev pub by_number : List Text → List ℕ → Shows
@@ -100,7 +37,7 @@ by_number names seen n a = cond (elem n seen) (as_number (get names a)) (blank a
 
 -- Gone: disassembly, fault note, shown destination, payload. How many names there are stays.
 abbrev pub bare_info : (Text → Text) → Info → Info
-bare_info f i = info_of [] none none (map f i.sources) (map f i.writes) 0
+bare_info f i = info_of [] None None (map f i.sources) (map f i.writes) 0
 
 -- The core stays.
 abbrev pub bare_op : Shows → Op → Op
@@ -122,7 +59,7 @@ bare_row r = row_of r.id r.address [] r.class r.first_cycle r.atomic r.oldest_at
 
 -- Gone: the status. The counters stay.
 abbrev pub bare_log : Log → Log
-bare_log l = log_of l.stats (map bare_trace l.traces) (map bare_row l.rows) none
+bare_log l = log_of l.stats (map bare_trace l.traces) (map bare_row l.rows) None
 
 -- Field by field: the machine stays (kind names are the making's, the same in both runs); units, queue and log as above; of the names only
 -- how many there are; claims, marks, offer and front (flags, fetch address, row and operation numbers) stay.
@@ -189,7 +126,7 @@ bare_offer o =
 unfoldable pub bare_answer : Call → Answer → Answer
 bare_answer c (refused n) = refused n
 bare_answer c done = done
-bare_answer c (offered o) = offered (omap bare_offer o)
+bare_answer c (offered o) = offered (option_map bare_offer o)
 bare_answer c (resolved a) = resolved a
 bare_answer c (invitation a) = invitation a
 bare_answer c (shown_status x) = shown_status x
@@ -206,7 +143,7 @@ bare_answer c (shown_cell b) = shown_cell b
 bare_answer c (shown_station t) = shown_station t
 bare_answer c (shown_rename p) = shown_rename p
 bare_answer c (shown_slot o) = shown_slot o
-bare_answer c (shown_text t) = shown_text (cond (asks_optional c) none (omap blank t))
+bare_answer c (shown_text t) = shown_text (cond (asks_optional c) None (option_map blank t))
 
 -- ── Recordings ──────────────────────────────────────────────────────────────
 

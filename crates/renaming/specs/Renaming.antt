@@ -1,7 +1,6 @@
 -- Demand 3: when the bare recordings of two runs are equal.
-use Rattle.std.specs.Prelude.{ℕ, ◌≡◌, ◌↔◌, List, [], ◌∷◌, ◌++◌, map, length}
-use Rattle.std.proofs.Math.Option.{Option, none, some}
-use Rattle.laws.specs.Lists.{All, All2, nth}
+use Rattle.std.specs.Prelude.{ℕ, ◌≡◌, ◌↔◌, List, [], ◌∷◌, ◌++◌, map, length, Option, None, Some, slice_get}
+use Rattle.laws.specs.Lists.{All, All2}
 use Rattle.laws.specs.Optional.{when_some}
 use Rattle.laws.specs.Texts.{Text}
 use Rattle.model.specs.Config.{PipelineShape}
@@ -25,10 +24,10 @@ Carries r i j = All2 r i.sources j.sources × All2 r i.writes j.writes
 
 -- Both are there, and it carries the first into the second.
 abbrev pub CarriesAt : Renaming → Option Info → Option Info → Type 0
-CarriesAt r none none = ⊥
-CarriesAt r none (some j) = ⊥
-CarriesAt r (some i) none = ⊥
-CarriesAt r (some i) (some j) = Carries r i j
+CarriesAt r None None = ⊥
+CarriesAt r None (Some j) = ⊥
+CarriesAt r (Some i) None = ⊥
+CarriesAt r (Some i) (Some j) = Carries r i j
 
 module _ (e : Engine) where
   abbrev pub accepted : State → Call → List Info
@@ -46,7 +45,7 @@ module _ (e : Engine) where
 
   -- It carries every operation looked at in the first run into the one with the same number in the second.
   abbrev pub CarriesLooked : Renaming → State → List Call → List Call → Type 0
-  CarriesLooked r s cs ds = All (λ (n : ℕ). CarriesAt r (nth (operations s cs) n) (nth (operations s ds) n)) (looked_numbers s cs)
+  CarriesLooked r s cs ds = All (λ (n : ℕ). CarriesAt r (slice_get (operations s cs) n) (slice_get (operations s ds) n)) (looked_numbers s cs)
 
   abbrev pub RenamingRule : State → List ℕ → List Call → List Call → Type 1
   RenamingRule s m cs ds =
@@ -71,5 +70,5 @@ module _ (e : Engine) where
 -- "The recordings are those of the engine that 1 and 2 define": the_engine.
 abbrev pub Demand3 : Type 1
 Demand3 =
-    (d : PipelineShape) (entry : ℕ) (lent : List ℕ) (cs ds : List Call) → make_refusal d (length lent) ≡ none
+    (d : PipelineShape) (entry : ℕ) (lent : List ℕ) (cs ds : List Call) → make_refusal d (length lent) ≡ None
     → RenamingRule the_engine (new d entry) (make_memory d lent) cs ds

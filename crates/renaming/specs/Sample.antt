@@ -1,7 +1,6 @@
 -- Lists of calls that differ in what is given to fetch, on the machine of document 01's case W: a multiply writes y, an alu reads y and x
 -- and writes z, an alu writes x.
-use Rattle.std.specs.Prelude.{ℕ, ◌+◌, true, false, List, [], ◌∷◌, ◌++◌, length, replicate}
-use Rattle.std.proofs.Math.Option.{none, some}
+use Rattle.std.specs.Prelude.{ℕ, ◌+◌, true, false, List, [], ◌∷◌, ◌++◌, length, replicate, None, Some}
 use Rattle.laws.specs.Texts.{Text, bytes}
 use Rattle.capability.specs.declared.PipelineInstructionClass.{PipelineInstructionClass}
 use Rattle.capability.specs.declared.PipelineInstructionClass.TheVariants.{Alu, Multiply}
@@ -17,7 +16,7 @@ use Rattle.renaming.specs.Recording.{Entry}
 
 abbrev pub sample : PipelineShape
 sample =
-    pipeline_shape (role.Fetch ∷ role.Decode ∷ role.Execute ∷ []) none (timing 0 2 0 0 0 0 0) (unit_spec (bytes "EX") [] Alu 3 ∷ []) 4
+    pipeline_shape (role.Fetch ∷ role.Decode ∷ role.Execute ∷ []) None (timing 0 2 0 0 0 0 0) (unit_spec (bytes "EX") [] Alu 3 ∷ []) 4
 
 -- 200 bytes a row.
 abbrev pub lent : List ℕ
@@ -26,7 +25,7 @@ lent = replicate 800 0
 -- By two names, a text and a payload.
 module _ (x y t : Text) (p : ℕ) where
   abbrev pub sample_info : List Text → List Text → Info
-  sample_info rs ws = info_of t none (some x) rs ws p
+  sample_info rs ws = info_of t None (Some x) rs ws p
 
   -- What the accepted fetches are given.
   abbrev pub sample_infos : List Info
@@ -36,7 +35,7 @@ module _ (x y t : Text) (p : ℕ) where
   op a c rs ws = fetch (given (decoded a 4 c false false) (sample_info rs ws)) 800
 
   abbrev next : Call
-  next = advance none 800
+  next = advance None 800
 
   -- The fetch inside a cycle is refused. The first operation is offered in cycle 8, tried again, and retired in cycle 9.
   abbrev pub sample_calls : List Call

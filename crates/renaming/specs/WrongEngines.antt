@@ -1,7 +1,6 @@
 -- Wrong engines, to see which of them demand 3 shuts out by itself (proofs/WrongEngines).
-use Rattle.std.specs.Prelude.{ℕ, Bool, true, false, cond, List, [], ◌∷◌, ◌++◌, map, eqb}
-use Rattle.std.proofs.Math.Option.{none}
-use Rattle.laws.specs.Lists.{any}
+use Rattle.std.specs.Prelude.{ℕ, Bool, true, false, cond, List, [], ◌∷◌, ◌++◌, map, eqb, None}
+use Rattle.std.specs.List.{list_any}
 use Rattle.laws.specs.Texts.{Text, bytes, same}
 use Rattle.capability.specs.declared.PipelineInstructionClass.TheVariants.{Alu}
 use Rattle.model.specs.Config.{PipelineShape, default_timing, pipeline_shape}
@@ -15,7 +14,7 @@ use Rattle.renaming.specs.Recording.{Engine}
 abbrev pub idle : Engine
 idle =
     record {
-      refusal = λ s c. none;
+      refusal = λ s c. None;
       answer = λ s m c. done;
       after = λ s c. s;
       memory_after = λ s c m. m;
@@ -28,7 +27,7 @@ reading p =
     record {
       refusal = refusal;
       answer = answer;
-      after = λ s c. cond (any p (accepted s c)) (set_enabled true (after s c)) (after s c);
+      after = λ s c. cond (list_any p (accepted s c)) (set_enabled true (after s c)) (after s c);
       memory_after = memory_after;
       looks = looks;
     }
@@ -37,7 +36,7 @@ abbrev pub payload_is_1 : Info → Bool
 payload_is_1 i = eqb i.payload 1
 
 abbrev pub writes_x : Info → Bool
-writes_x i = any (same (bytes "x")) i.writes
+writes_x i = list_any (same (bytes "x")) i.writes
 
 -- As idle, but it looks at each operation that is fetched, under the number 0, and gives every register the number 0.
 abbrev pub looks_given : Call → List (ℕ × List ℕ)
@@ -46,7 +45,7 @@ looks_given c = map (λ (i : Info). (0, map (λ (a : Text). 0) (i.sources ++ i.w
 abbrev pub all_0 : Engine
 all_0 =
     record {
-      refusal = λ s c. none;
+      refusal = λ s c. None;
       answer = λ s m c. done;
       after = λ s c. s;
       memory_after = λ s c m. m;
@@ -56,11 +55,11 @@ all_0 =
 -- ── Calls on a machine of one unit and one row ──────────────────────────────
 
 abbrev pub small : PipelineShape
-small = pipeline_shape [] none default_timing [] 1
+small = pipeline_shape [] None default_timing [] 1
 
 abbrev pub fetch_one : List Text → ℕ → Call
-fetch_one ws p = fetch (given (decoded 0 4 Alu false false) (info_of [] none none [] ws p)) 200
+fetch_one ws p = fetch (given (decoded 0 4 Alu false false) (info_of [] None None [] ws p)) 200
 
 -- A fetch that no look follows.
 abbrev pub unlooked : List Text → ℕ → List Call
-unlooked ws p = start ∷ advance none 200 ∷ fetch_one ws p ∷ []
+unlooked ws p = start ∷ advance None 200 ∷ fetch_one ws p ∷ []

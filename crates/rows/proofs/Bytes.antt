@@ -4,12 +4,12 @@ use native.Mathlib.Omega.{arith}
 use native.Mathlib.Nat.{div-add-mod', mul-le-mul_right, suc-mul}
 use mathlib.Core.Path.{◌≡◌, refl, ◌∙◌, ap}
 use mathlib.Core.Bool.{Bool, true, false}
-use mathlib.Core.Option.{some}
+use Rattle.std.specs.Prelude.{Some, slice_get}
 use mathlib.Core.List.{List, [], ◌∷◌, ◌++◌}
 use lib.Dec.{ltb}
 use lib.ListN.{length, drop, replicate}
 use borrow.Author.Tests.{ltb-true, ltb-false}
-use Rattle.laws.specs.Lists.{All, nth}
+use Rattle.laws.specs.Lists.{All}
 use Rattle.model.specs.Timeline.{Write, overlay, splice, timeline, write_all}
 
 overlay-length : (bs m : List ℕ) → length (overlay bs m) ≡ length m
@@ -24,42 +24,42 @@ splice-length zero bs m = overlay-length bs m
 splice-length (suc p) bs [] = refl
 splice-length (suc p) bs (x ∷ m) = ap suc (splice-length p bs m)
 
-pub splice-before : (p q : ℕ) (bs m : List ℕ) → q < p → nth (splice p bs m) q ≡ nth m q
-unfolding timeline nth
+pub splice-before : (p q : ℕ) (bs m : List ℕ) → q < p → slice_get (splice p bs m) q ≡ slice_get m q
+unfolding timeline
 splice-before zero q bs m l = absurd (omega arith)
 splice-before (suc p) q bs [] l = refl
 splice-before (suc p) zero bs (x ∷ m) l = refl
 splice-before (suc p) (suc q) bs (x ∷ m) l = splice-before p q bs m (omega arith)
 
-overlay-past : (q : ℕ) (bs m : List ℕ) → length bs ≤ q → nth (overlay bs m) q ≡ nth m q
-unfolding timeline nth
+overlay-past : (q : ℕ) (bs m : List ℕ) → length bs ≤ q → slice_get (overlay bs m) q ≡ slice_get m q
+unfolding timeline
 overlay-past q [] m l = refl
 overlay-past q (b ∷ bs) [] l = refl
 overlay-past zero (b ∷ bs) (x ∷ m) l = absurd (omega arith)
 overlay-past (suc q) (b ∷ bs) (x ∷ m) l = overlay-past q bs m (omega arith)
 
-pub splice-past : (p q : ℕ) (bs m : List ℕ) → p + length bs ≤ q → nth (splice p bs m) q ≡ nth m q
-unfolding timeline nth
+pub splice-past : (p q : ℕ) (bs m : List ℕ) → p + length bs ≤ q → slice_get (splice p bs m) q ≡ slice_get m q
+unfolding timeline
 splice-past zero q bs m l = overlay-past q bs m (omega arith)
 splice-past (suc p) q bs [] l = refl
 splice-past (suc p) zero bs (x ∷ m) l = refl
 splice-past (suc p) (suc q) bs (x ∷ m) l = splice-past p q bs m (omega arith)
 
-pub splice-one : (p b : ℕ) (m : List ℕ) → p < length m → nth (splice p (b ∷ []) m) p ≡ some b
-unfolding timeline nth
+pub splice-one : (p b : ℕ) (m : List ℕ) → p < length m → slice_get (splice p (b ∷ []) m) p ≡ Some b
+unfolding timeline
 splice-one p b [] l = absurd (omega arith)
 splice-one zero b (x ∷ m) l = refl
 splice-one (suc p) b (x ∷ m) l = splice-one p b m (omega arith)
 
-overlay-fill : (q n v : ℕ) (m : List ℕ) → q < n → q < length m → nth (overlay (replicate n v) m) q ≡ some v
-unfolding timeline nth
+overlay-fill : (q n v : ℕ) (m : List ℕ) → q < n → q < length m → slice_get (overlay (replicate n v) m) q ≡ Some v
+unfolding timeline
 overlay-fill q zero v m l g = absurd (omega arith)
 overlay-fill q (suc n) v [] l g = absurd (omega arith)
 overlay-fill zero (suc n) v (x ∷ m) l g = refl
 overlay-fill (suc q) (suc n) v (x ∷ m) l g = overlay-fill q n v m (omega arith) (omega arith)
 
-pub splice-fill : (p q n v : ℕ) (m : List ℕ) → p ≤ q → q < p + n → q < length m → nth (splice p (replicate n v) m) q ≡ some v
-unfolding timeline nth
+pub splice-fill : (p q n v : ℕ) (m : List ℕ) → p ≤ q → q < p + n → q < length m → slice_get (splice p (replicate n v) m) q ≡ Some v
+unfolding timeline
 splice-fill zero q n v m f l g = overlay-fill q n v m (omega arith) g
 splice-fill (suc p) q n v [] f l g = absurd (omega arith)
 splice-fill (suc p) zero n v (x ∷ m) f l g = absurd (omega arith)
@@ -117,13 +117,13 @@ apart h i j l g e = go (ltb (i / h) (j / h)) refl
 
 -- Two memories agree on the 200 bytes of slot k.
 abbrev pub Agrees : ℕ → List ℕ → List ℕ → Type 0
-Agrees k m m' = (q : ℕ) → q < 200 → nth m' (k * 200 + q) ≡ nth m (k * 200 + q)
+Agrees k m m' = (q : ℕ) → q < 200 → slice_get m' (k * 200 + q) ≡ slice_get m (k * 200 + q)
 
 -- A write into slot k' leaves every other slot.
 pub write-agrees
     : (k k' p : ℕ) (bs m : List ℕ) → (k ≡ k' → ⊥) → k' * 200 ≤ p → p + length bs ≤ k' * 200 + 200 → Agrees k m (splice p bs m)
 write-agrees k k' p bs m n f l q g = go (ltb k k') refl
   where
-    go : (b : Bool) → ltb k k' ≡ b → nth (splice p bs m) (k * 200 + q) ≡ nth m (k * 200 + q)
+    go : (b : Bool) → ltb k k' ≡ b → slice_get (splice p bs m) (k * 200 + q) ≡ slice_get m (k * 200 + q)
     go true e = splice-before p (k * 200 + q) bs m (omega (arith, ltb-true k k' e))
     go false e = splice-past p (k * 200 + q) bs m (omega (arith, ltb-false k k' e, n))

@@ -3,7 +3,7 @@ use Prim.Native.Nat.{ℕ, zero, suc, ◌+◌, ◌≤◌, ◌<◌}
 use native.Mathlib.Omega.{arith}
 use mathlib.Core.Path.{◌≡◌}
 use mathlib.Core.Bool.{Bool, true, false, cond}
-use mathlib.Core.Option.{Option, none, some}
+use Rattle.std.specs.Prelude.{Option, None, Some}
 use mathlib.Core.List.{List, [], ◌∷◌, map}
 use lib.ListN.{length}
 use Rattle.laws.specs.Lists.{All, modify}
@@ -11,35 +11,9 @@ use Rattle.laws.specs.Texts.{Text}
 use Rattle.model.specs.Config.{UnitSpec}
 use Rattle.model.specs.Op.{Op}
 use Rattle.model.specs.Registers.{resolve}
-use Rattle.model.specs.Units.{
-  FunctionalUnit,
-  begin,
-  build_units,
-  clear,
-  clear_hazard,
-  instances,
-  mark_hazard,
-  occupy,
-  read_one,
-  tick,
-  units,
-  with_busy,
-  without_waits,
-}
+use Rattle.model.specs.Units.{FunctionalUnit, begin, build_units, clear, clear_hazard, instances, mark_hazard, occupy, read_one, tick, units, with_busy, without_waits}
 use Rattle.model.specs.State.{State}
-use Rattle.model.specs.Write.{
-  Blocked,
-  blocked_kind,
-  mark_blocked,
-  open_cycle,
-  put_back,
-  retry,
-  start_cycle,
-  stopped,
-  take_out,
-  writable_unit,
-  writing,
-}
+use Rattle.model.specs.Write.{Blocked, blocked_kind, mark_blocked, open_cycle, put_back, retry, start_cycle, stopped, take_out, writable_unit, writing}
 use Rattle.model.specs.Issue.{complete_offer, free_unit, issue, issue_choose, issue_front, issue_to, issuing, learn, taken, waits_on}
 use Rattle.model.specs.Scoreboard.{after_issue, advance, before_issue, close_cycle, closed, rebuilt, scoreboard, stops}
 use Rattle.runs.proofs.Tracks.{all_append, all_map, all-modify}
@@ -79,13 +53,13 @@ module _ (n : ℕ) where
 
   kinds-out : (w : Option ℕ) (us : List FunctionalUnit) → All (Below n) us → All (Below n) (take_out w us)
   unfolding writing
-  kinds-out none us p = p
-  kinds-out (some i) us p = all-modify (Below n) i (with_busy false) (λ u x. x) us p
+  kinds-out None us p = p
+  kinds-out (Some i) us p = all-modify (Below n) i (with_busy false) (λ u x. x) us p
 
   kinds-back : (w : Option ℕ) (us : List FunctionalUnit) → All (Below n) us → All (Below n) (put_back w us)
   unfolding writing
-  kinds-back none us p = p
-  kinds-back (some i) us p = all-modify (Below n) i (with_busy true) (λ u x. x) us p
+  kinds-back None us p = p
+  kinds-back (Some i) us p = all-modify (Below n) i (with_busy true) (λ u x. x) us p
 
   pub kinds-start : (s : State) → All (Below n) s.units → All (Below n) (start_cycle s).units
   unfolding writing units
@@ -113,8 +87,8 @@ module _ (ks : List UnitSpec) where
   kinds-closed s h = go s.offer.writing
     where
       go : (w : Option ℕ) → Kinds ks (close_cycle (complete_offer w s))
-      go none = record { same = h.same; known = h.known }
-      go (some i) =
+      go None = record { same = h.same; known = h.known }
+      go (Some i) =
           record {
             same = h.same;
             known =
@@ -129,15 +103,15 @@ module _ (ks : List UnitSpec) where
 
   kinds-before : (r : Option ℕ) (s : State) → Kinds ks s → Kinds ks (before_issue r s)
   unfolding scoreboard issuing
-  kinds-before none s h = record { same = h.same; known = kinds-units s.units h.known }
-  kinds-before (some n) s h = record { same = h.same; known = kinds-units s.units h.known }
+  kinds-before None s h = record { same = h.same; known = kinds-units s.units h.known }
+  kinds-before (Some n) s h = record { same = h.same; known = kinds-units s.units h.known }
 
   kinds-to
       : (o : Op) (rest : List Op) (r w : List ℕ) (tk fr : Option ℕ) (s : State) → Kinds ks s → Kinds ks (issue_to o rest r w tk fr s)
   unfolding issuing units
-  kinds-to o rest r w (some t) fr s h = record { same = h.same; known = h.known }
-  kinds-to o rest r w none none s h = record { same = h.same; known = h.known }
-  kinds-to o rest r w none (some i) s h =
+  kinds-to o rest r w (Some t) fr s h = record { same = h.same; known = h.known }
+  kinds-to o rest r w None None s h = record { same = h.same; known = h.known }
+  kinds-to o rest r w None (Some i) s h =
       record { same = h.same; known = all-modify P i (occupy o r w (waits_on s.producer r)) (λ u x. x) s.units h.known }
 
   kinds-choose : (b y : Bool) (o : Op) (rest : List Op) (s : State) → Kinds ks s → Kinds ks (issue_choose b y o rest s)

@@ -4,60 +4,20 @@ use native.Mathlib.Omega.{arith}
 use native.Mathlib.Nat.{add-mod_right}
 use mathlib.Core.Path.{◌≡◌, refl, sym, ◌∙◌, ap, subst}
 use mathlib.Core.Bool.{Bool}
-use mathlib.Core.Option.{some}
+use Rattle.std.specs.Prelude.{Some, slice_get}
 use mathlib.Core.List.{List, [], ◌∷◌, ◌++◌, map}
 use lib.ListN.{length, drop, replicate, length-append, length-drop, length-replicate}
 use lib.Seq.{drop-append-le}
 use Rattle.capability.specs.declared.PipelineInstructionClass.{PipelineInstructionClass}
-use Rattle.laws.specs.Lists.{All2, none2, nth}
+use Rattle.laws.specs.Lists.{All2, none2}
 use Rattle.laws.specs.Numbers.{max64, saturating_add}
 use Rattle.laws.specs.Texts.{Text}
-use Rattle.model.specs.Timeline.{
-  Row,
-  open_row,
-  open_writes,
-  push,
-  push_all,
-  push_all_writes,
-  push_writes,
-  row_of,
-  slot,
-  splice,
-  timeline,
-  write_all,
-}
+use Rattle.model.specs.Timeline.{Row, open_row, open_writes, push, push_all, push_all_writes, push_writes, row_of, slot, splice, timeline, write_all}
 use Rattle.model.specs.State.{State}
 use Rattle.model.specs.RustTimeline.{RustCell, RustRow, rust_timeline, rust_open, rust_push, rust_push_all, rust_row, opening_cell}
-use Rattle.rows.proofs.Bytes.{
-  splice-length,
-  splice-fill,
-  write_all-append,
-  write_all-length,
-  write_all-drop,
-  apart,
-  Agrees,
-  write-agrees,
-}
+use Rattle.rows.proofs.Bytes.{splice-length, splice-fill, write_all-append, write_all-length, write_all-drop, apart, Agrees, write-agrees}
 use Rattle.rows.proofs.Row.{RowShown, slot-room, new-byte, other_byte}
-use Rattle.rows.proofs.Push.{
-  Ids,
-  SlotFree,
-  rest-shown,
-  push-ids,
-  push-length,
-  push-inside,
-  push-leaves,
-  push-shown,
-  free-pushed,
-  free-undropped,
-  free-last,
-  ids-drop,
-  ids-last,
-  all_drop,
-  all-last,
-  all-length,
-  open-as-drop,
-}
+use Rattle.rows.proofs.Push.{Ids, SlotFree, rest-shown, push-ids, push-length, push-inside, push-leaves, push-shown, free-pushed, free-undropped, free-last, ids-drop, ids-last, all_drop, all-last, all-length, open-as-drop}
 
 -- `lent` is the memory that making was lent. Every byte of m is said: of cells, unused in a row, in a slot of no row, beyond.
 pub record Holds (lent : List ℕ) (history : ℕ) (rows : List Row) (next_row next_seq : ℕ) (m : List ℕ) (rust : List RustRow) : Type 0 where
@@ -69,7 +29,7 @@ pub record Holds (lent : List ℕ) (history : ℕ) (rows : List Row) (next_row n
   pub next : first + length rows ≡ next_row
   pub at_most : length rows ≤ history
   pub shown : All2 (RowShown history m) rows rust
-  pub blank : (k : ℕ) → k < history → SlotFree history k rows → (q : ℕ) → q < 200 → nth m (k * 200 + q) ≡ some 255
+  pub blank : (k : ℕ) → k < history → SlotFree history k rows → (q : ℕ) → q < 200 → slice_get m (k * 200 + q) ≡ Some 255
   pub room : history * 200 ≤ length lent
   pub same_length : length m ≡ length lent
   pub beyond : drop (history * 200) m ≡ drop (history * 200) lent
@@ -140,7 +100,7 @@ module _ (lent : List ℕ) where
       → Holds lent h rs n n m xs
       → Holds lent h (open_row h (row_of n a tx cl f at 0 1) rs) (saturating_add n 1) (saturating_add n 1) (write_all (open_writes h n) m)
       (rust_open h (rust_row n a tx cl f at (opening_cell ∷ []) 0) xs)
-  unfolding timeline rust_timeline nth
+  unfolding timeline rust_timeline
   holds-open h n a tx cl f at rs m xs small w =
       subst (λ (l : List RustRow). Holds lent h (open_row h x rs) (saturating_add n 1) (saturating_add n 1) m' l) (sym rust-kept)
       (subst (λ (l : List Row). Holds lent h l (saturating_add n 1) (saturating_add n 1) m' (drop k xs ++ (y ∷ []))) (sym (drop-append-le k rs (x ∷ []) fits))
@@ -208,13 +168,13 @@ module _ (lent : List ℕ) where
           (λ z l g. apart h z n (omega (arith, kept-length, w.next, fits)) (omega (arith, kept-length, kept-few, w.next, fits)))
           (ids-drop k w.first rs fits w.ids) (all_drop (RowShown h m) k rs xs w.shown)
 
-      first_byte : (c : ℕ) → c < 1 → nth m' (slot h n + (0 + c) % 200) ≡ nth (0 ∷ []) c
+      first_byte : (c : ℕ) → c < 1 → slice_get m' (slot h n + (0 + c) % 200) ≡ slice_get (0 ∷ []) c
       first_byte zero l =
           new-byte (slot h n) (slot h n + (0 + 0) % 200) 0 (splice (slot h n) (replicate 200 255) m) (omega arith)
           (omega (arith, splice-length (slot h n) (replicate 200 255) m, inside.1, w.room, w.same_length))
       first_byte (suc c) l = absurd (omega arith)
 
-      blank' : (j : ℕ) → j < h → SlotFree h j (kept ++ (x ∷ [])) → (q : ℕ) → q < 200 → nth m' (j * 200 + q) ≡ some 255
+      blank' : (j : ℕ) → j < h → SlotFree h j (kept ++ (x ∷ [])) → (q : ℕ) → q < 200 → slice_get m' (j * 200 + q) ≡ Some 255
       blank' j l free q g =
           let e = free-last h j kept x free in
           agrees j (λ d. e.1 (sym d)) q g

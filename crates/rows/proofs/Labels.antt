@@ -3,7 +3,7 @@ use Prim.Native.Nat.{ℕ, zero, suc, ◌+◌, ◌-◌, ◌/◌, ◌%◌, ◌≤�
 use native.Mathlib.Omega.{arith}
 use mathlib.Core.Path.{◌≡◌, refl, sym, ◌∙◌, ap, subst}
 use mathlib.Core.Bool.{Bool, true, false, cond}
-use mathlib.Core.Option.{Option, none, some}
+use Rattle.std.specs.Prelude.{Option, None, Some, slice_get, is_some}
 use mathlib.Core.List.{List, [], ◌∷◌, ◌++◌, map}
 use lib.Dec.{eqb, ltb}
 use lib.ListN.{length}
@@ -15,8 +15,8 @@ use Rattle.capability.specs.declared.PipelineTimelineState.{PipelineTimelineStat
 use Rattle.capability.specs.declared.PipelineTimelineState.TheVariants.{Empty, Active, Stalled, Flushed}
 use Rattle.capability.specs.declared.Phase.{Phase}
 use Rattle.capability.specs.declared.Phase.TheVariants.{Wait, Read, Execute, Write}
-use Rattle.laws.specs.Lists.{All, keep, lists, modify, nth, rest}
-use Rattle.laws.specs.Optional.{is_some, or_else}
+use Rattle.laws.specs.Lists.{All, keep, lists, modify, rest}
+use Rattle.std.specs.Option.{option_or}
 use Rattle.laws.specs.Texts.{Text}
 use Rattle.laws.proofs.Maps.{map-append}
 use Rattle.model.specs.Config.{UnitSpec, config, spec_name, with_capacity}
@@ -27,26 +27,7 @@ use Rattle.model.specs.Issue.{flushed_cell, issuing, phase_label, queue_cell, ti
 use Rattle.model.specs.Views.{cell_state, label_role, views}
 use Rattle.model.specs.Requests.{cell_labels, label_text, requests, spec_names}
 use Rattle.runs.proofs.Tracks.{all_append, all_map, all-weaken}
-use Rattle.model.specs.RustTimeline.{
-  RustCell,
-  rust_cell_of,
-  phase_index,
-  phase_role,
-  opening_cell,
-  dropped_cell,
-  dropped_cells,
-  queued_cell,
-  recorded_cell,
-  recorded_cells,
-  scheduled_cell,
-  scheduled_label,
-  RustRow,
-  rust_timeline,
-  rust_add,
-  rust_open,
-  rust_push,
-  rust_push_all,
-}
+use Rattle.model.specs.RustTimeline.{RustCell, rust_cell_of, phase_index, phase_role, opening_cell, dropped_cell, dropped_cells, queued_cell, recorded_cell, recorded_cells, scheduled_cell, scheduled_label, RustRow, rust_timeline, rust_add, rust_open, rust_push, rust_push_all}
 use Rattle.rows.proofs.Places.{nth_past, all_rest}
 use Rattle.rows.proofs.Holds.{coded}
 use Rattle.rows.proofs.Declared.{Below, Kinds}
@@ -70,14 +51,14 @@ coded-recorded s =
     ++ coded-map (scheduled_cell s.machine.specs) unit_cell (λ u. refl) (keep is_busy s.units) i)
   where
     none-added : (h : Option PipelineHazardKind) → 0 + cond (is_some h) 32 0 ≡ cond (is_some h) 32 0
-    none-added none = refl
-    none-added (some k) = refl
+    none-added None = refl
+    none-added (Some k) = refl
 
 -- ── One cell ────────────────────────────────────────────────────────────────
 
 -- What the byte says, with the kinds ks.
 pub record Right (ks : List UnitSpec) (x : RustCell) : Type 0 where
-  pub label : label_text ks (x.byte % 32) ≡ some x.label
+  pub label : label_text ks (x.byte % 32) ≡ Some x.label
   pub state : cell_state x.byte ≡ x.state
   pub role : label_role (x.byte % 32) ≡ x.role
 
@@ -92,7 +73,7 @@ right-dropped : (ks : List UnitSpec) → Right ks dropped_cell
 unfolding rust_timeline requests views lists
 right-dropped ks = record { label = refl; state = refl; role = refl }
 
-no_label : (n : ℕ) → 8 ≤ n → nth cell_labels n ≡ none
+no_label : (n : ℕ) → 8 ≤ n → slice_get cell_labels n ≡ None
 unfolding requests
 no_label n l = nth_past cell_labels n (omega arith)
 
@@ -111,7 +92,7 @@ kind-role n l g =
 
 module _ (ks : List UnitSpec) where
   right-recorded
-      : (o : Op) (l : Text) (r : PipelineStageRole) (n : ℕ) → n < 32 → label_text ks n ≡ some l → label_role n ≡ r
+      : (o : Op) (l : Text) (r : PipelineStageRole) (n : ℕ) → n < 32 → label_text ks n ≡ Some l → label_role n ≡ r
       → Right ks (recorded_cell o l r n)
   unfolding rust_timeline views
   right-recorded o l r n small p q = go (is_some o.core.hazard)
@@ -130,15 +111,15 @@ module _ (ks : List UnitSpec) where
   unfolding rust_timeline requests config lists views issuing
   right-scheduled u l few = go u.phase
     where
-      there : (xs : List UnitSpec) (k : ℕ) → k < length xs → spec_names xs k ≡ some (spec_name xs k)
+      there : (xs : List UnitSpec) (k : ℕ) → k < length xs → spec_names xs k ≡ Some (spec_name xs k)
       there [] k g = absurd (omega arith)
       there (x ∷ xs) zero g = refl
       there (x ∷ xs) (suc k) g = there xs k (omega arith)
 
-      kind-text : label_text ks (8 + u.spec) ≡ some (spec_name ks u.spec)
+      kind-text : label_text ks (8 + u.spec) ≡ Some (spec_name ks u.spec)
       kind-text =
-          ap (λ (o : Option Text). or_else o (cond (ltb (8 + u.spec) 8) none (spec_names ks (8 + u.spec - 8)))) (no_label (8 + u.spec) (omega arith))
-          ∙ ap (λ (b : Bool). cond b none (spec_names ks (8 + u.spec - 8))) (le-ltb (8 + u.spec) 8 (omega arith))
+          ap (λ (o : Option Text). option_or o (cond (ltb (8 + u.spec) 8) None (spec_names ks (8 + u.spec - 8)))) (no_label (8 + u.spec) (omega arith))
+          ∙ ap (λ (b : Bool). cond b None (spec_names ks (8 + u.spec - 8))) (le-ltb (8 + u.spec) 8 (omega arith))
           ∙ ap (spec_names ks) (omega arith) ∙ there ks u.spec l
 
       go
@@ -249,7 +230,7 @@ noted-right ks k n xs p =
     one c r =
         record {
           label =
-              ap (λ (o : Option Text). or_else (nth cell_labels (c.byte % 32)) (cond (ltb (c.byte % 32) 8) none o)) (noted-names ks k n (c.byte % 32 - 8))
+              ap (λ (o : Option Text). option_or (slice_get cell_labels (c.byte % 32)) (cond (ltb (c.byte % 32) 8) None o)) (noted-names ks k n (c.byte % 32 - 8))
               ∙ r.label;
           state = r.state;
           role = r.role;

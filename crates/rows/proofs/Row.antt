@@ -4,12 +4,12 @@ use native.Mathlib.Omega.{arith}
 use native.Mathlib.Nat.{mod-lt}
 use mathlib.Core.Path.{◌≡◌, refl, sym, ◌∙◌, ap, subst}
 use mathlib.Core.Bool.{Bool, true, false, cond}
-use mathlib.Core.Option.{some}
+use Rattle.std.specs.Prelude.{Some, slice_get}
 use mathlib.Core.List.{List, [], ◌∷◌, ◌++◌, map}
 use lib.Dec.{ltb}
 use lib.ListN.{length, length-append}
 use borrow.Author.Tests.{ltb-true, ltb-false}
-use Rattle.laws.specs.Lists.{nth, rest}
+use Rattle.laws.specs.Lists.{rest}
 use Rattle.laws.specs.Numbers.{saturating_add}
 use Rattle.laws.proofs.Maps.{map-append, length-of}
 use Rattle.model.specs.Timeline.{Row, add_cell, cell_place, next_place, row_of, slot, splice, timeline}
@@ -31,8 +31,8 @@ pub record RowShown (history : ℕ) (m : List ℕ) (r : Row) (x : RustRow) : Typ
   pub same_count : r.count ≡ length x.cells
   pub few : r.count ≤ 200
   pub oldest : r.oldest_at ≡ x.lost % 200
-  pub bytes : (c : ℕ) → c < r.count → nth m (cell_place history r c) ≡ nth (map byte_of x.cells) c
-  pub unused : (c : ℕ) → r.count ≤ c → c < 200 → nth m (cell_place history r c) ≡ some 255
+  pub bytes : (c : ℕ) → c < r.count → slice_get m (cell_place history r c) ≡ slice_get (map byte_of x.cells) c
+  pub unused : (c : ℕ) → r.count ≤ c → c < 200 → slice_get m (cell_place history r c) ≡ Some 255
 
 pub shown-agrees : (h : ℕ) (r : Row) (x : RustRow) (m m' : List ℕ) → Agrees (r.id % h) m m' → RowShown h m r x → RowShown h m' r x
 unfolding timeline
@@ -56,26 +56,26 @@ pub slot-room : (h i : ℕ) → 1 ≤ h → i % h * 200 + 200 ≤ h * 200
 slot-room h i l = let z : i % h < h = mod-lt i l in omega arith
 
 -- The new cell's byte, and the others' as they were.
-pub new-byte : (p q c : ℕ) (m : List ℕ) → q ≡ p → p < length m → nth (splice p (c ∷ []) m) q ≡ some c
-new-byte p q c m e l = ap (λ (k : ℕ). nth (splice p (c ∷ []) m) k) e ∙ splice-one p c m l
+pub new-byte : (p q c : ℕ) (m : List ℕ) → q ≡ p → p < length m → slice_get (splice p (c ∷ []) m) q ≡ Some c
+new-byte p q c m e l = ap (λ (k : ℕ). slice_get (splice p (c ∷ []) m) k) e ∙ splice-one p c m l
 
-pub other_byte : (p q c : ℕ) (m : List ℕ) → (q ≡ p → ⊥) → nth (splice p (c ∷ []) m) q ≡ nth m q
+pub other_byte : (p q c : ℕ) (m : List ℕ) → (q ≡ p → ⊥) → slice_get (splice p (c ∷ []) m) q ≡ slice_get m q
 other_byte p q c m n = go (ltb q p) refl
   where
-    go : (b : Bool) → ltb q p ≡ b → nth (splice p (c ∷ []) m) q ≡ nth m q
+    go : (b : Bool) → ltb q p ≡ b → slice_get (splice p (c ∷ []) m) q ≡ slice_get m q
     go true e = splice-before p q (c ∷ []) m (ltb-true q p e)
     go false e = splice-past p q (c ∷ []) m (omega (arith, ltb-false q p e, n))
 
 -- Fewer than 200: a cell more.
 add-part
     : (b o n c : ℕ) (cells m : List ℕ) → n ≡ length cells → n < 200 → o < 200 → b + 200 ≤ length m
-    → ((k : ℕ) → k < length cells → nth m (b + (o + k) % 200) ≡ nth cells k) → (k : ℕ) → k < n + 1
-    → nth (splice (b + (o + n) % 200) (c ∷ []) m) (b + (o + k) % 200) ≡ nth (cells ++ (c ∷ [])) k
+    → ((k : ℕ) → k < length cells → slice_get m (b + (o + k) % 200) ≡ slice_get cells k) → (k : ℕ) → k < n + 1
+    → slice_get (splice (b + (o + n) % 200) (c ∷ []) m) (b + (o + k) % 200) ≡ slice_get (cells ++ (c ∷ [])) k
 add-part b o n c cells m e l g room old k z = go (ltb k n) refl
   where
     go
         : (t : Bool) → ltb k n ≡ t
-        → nth (splice (b + (o + n) % 200) (c ∷ []) m) (b + (o + k) % 200) ≡ nth (cells ++ (c ∷ [])) k
+        → slice_get (splice (b + (o + n) % 200) (c ∷ []) m) (b + (o + k) % 200) ≡ slice_get (cells ++ (c ∷ [])) k
     go true t =
         let y : k < n = ltb-true k n t in
         other_byte (b + (o + n) % 200) (b + (o + k) % 200) c m (λ d. omega arith) ∙ old k (omega arith)
@@ -103,19 +103,19 @@ past-apart o n k l g f e = omega arith
 -- 200 of them: the oldest goes.
 add-full
     : (b o c : ℕ) (cells m : List ℕ) → length cells ≡ 200 → o < 200 → b + 200 ≤ length m
-    → ((k : ℕ) → k < length cells → nth m (b + (o + k) % 200) ≡ nth cells k) → (k : ℕ) → k < 200
-    → nth (splice (b + (o + length cells) % 200) (c ∷ []) m) (b + (suc o % 200 + k) % 200) ≡ nth (rest (cells ++ (c ∷ []))) k
+    → ((k : ℕ) → k < length cells → slice_get m (b + (o + k) % 200) ≡ slice_get cells k) → (k : ℕ) → k < 200
+    → slice_get (splice (b + (o + length cells) % 200) (c ∷ []) m) (b + (suc o % 200 + k) % 200) ≡ slice_get (rest (cells ++ (c ∷ []))) k
 add-full b o c cells m e g room old k z = go (ltb k 199) refl
   where
     go
         : (t : Bool) → ltb k 199 ≡ t
-        → nth (splice (b + (o + length cells) % 200) (c ∷ []) m) (b + (suc o % 200 + k) % 200) ≡ nth (rest (cells ++ (c ∷ []))) k
+        → slice_get (splice (b + (o + length cells) % 200) (c ∷ []) m) (b + (suc o % 200 + k) % 200) ≡ slice_get (rest (cells ++ (c ∷ []))) k
     go true t =
         let y : k < 199 = ltb-true k 199 t in
         let same : b + (suc o % 200 + k) % 200 ≡ b + (o + suc k) % 200 = ap (λ (q : ℕ). b + q) (step_same o k) in
         other_byte (b + (o + length cells) % 200) (b + (suc o % 200 + k) % 200) c m
         (λ d. step-apart o k g y (sym (step_same o k) ∙ cancel b _ _ d ∙ step-round o (length cells) g e))
-        ∙ ap (λ (q : ℕ). nth m q) same ∙ old (suc k) (omega arith)
+        ∙ ap (λ (q : ℕ). slice_get m q) same ∙ old (suc k) (omega arith)
         ∙ sym (nth-rest (cells ++ (c ∷ [])) k ∙ nth_left cells (c ∷ []) (suc k) (omega arith))
     go false t =
         let y : 199 ≤ k = ltb-false k 199 t in
@@ -148,7 +148,7 @@ add-shown h c r y m one room x =
     as_many : r.count ≡ length old-bytes
     as_many = x.same_count ∙ sym (length-of byte_of y.cells)
 
-    old : (k : ℕ) → k < length old-bytes → nth m (slot h r.id + (r.oldest_at + k) % 200) ≡ nth old-bytes k
+    old : (k : ℕ) → k < length old-bytes → slice_get m (slot h r.id + (r.oldest_at + k) % 200) ≡ slice_get old-bytes k
     old k l = x.bytes k (omega (arith, as_many))
 
     below : r.oldest_at < 200
@@ -177,11 +177,11 @@ add-shown h c r y m one room x =
               λ k l.
               subst
               (λ (n : ℕ).
-              nth (splice (slot h r.id + (r.oldest_at + n) % 200) (c.byte ∷ []) m) (slot h r.id + (suc r.oldest_at % 200 + k) % 200)
-              ≡ nth (rest (old-bytes ++ (c.byte ∷ []))) k)
+              slice_get (splice (slot h r.id + (r.oldest_at + n) % 200) (c.byte ∷ []) m) (slot h r.id + (suc r.oldest_at % 200 + k) % 200)
+              ≡ slice_get (rest (old-bytes ++ (c.byte ∷ []))) k)
               (sym as_many)
               (add-full (slot h r.id) r.oldest_at c.byte old-bytes m (sym as_many ∙ all) below inside old k (omega (arith, all)))
-              ∙ ap (λ (l : List ℕ). nth l k)
+              ∙ ap (λ (l : List ℕ). slice_get l k)
               (ap rest (sym (map-append byte_of y.cells (c ∷ []))) ∙ sym (map-rest byte_of (y.cells ++ (c ∷ []))));
           unused = λ k l g. absurd (omega (arith, all));
         }
@@ -200,7 +200,7 @@ add-shown h c r y m one room x =
           bytes =
               λ k l.
               add-part (slot h r.id) r.oldest_at r.count c.byte old-bytes m as_many (omega arith) below inside old k (omega arith)
-              ∙ ap (λ (l : List ℕ). nth l k) (sym (map-append byte_of y.cells (c ∷ [])));
+              ∙ ap (λ (l : List ℕ). slice_get l k) (sym (map-append byte_of y.cells (c ∷ [])));
           unused =
               λ k l g.
               other_byte (next_place h r) (cell_place h r k) c.byte m

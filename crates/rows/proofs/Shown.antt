@@ -3,13 +3,13 @@ use Prim.Native.Nat.{ℕ, zero, suc, ◌+◌, ◌*◌, ◌%◌, ◌≤◌, max}
 use native.Mathlib.Omega.{arith}
 use mathlib.Core.Path.{◌≡◌, refl, sym, ◌∙◌, ap, subst}
 use mathlib.Core.Bool.{Bool, true, false, cond, ◌&&◌, ◌||◌, true≢false}
-use mathlib.Core.Option.{Option, none, some}
+use Rattle.std.specs.Prelude.{Option, None, Some, slice_get, option_map}
 use mathlib.Core.List.{List, [], ◌∷◌, map}
 use lib.Dec.{ltb}
 use lib.ListN.{length}
 use borrow.Author.Tests.{ltb-true, ltb-false, le-ltb}
-use Rattle.laws.specs.Lists.{All, All2, lists, more2, none2, nth}
-use Rattle.laws.specs.Optional.{omap, when_some}
+use Rattle.laws.specs.Lists.{All, All2, lists, more2, none2}
+use Rattle.laws.specs.Optional.{when_some}
 use Rattle.laws.specs.Texts.{Text}
 use Rattle.laws.proofs.Choices.{none-some, some_inj}
 use Rattle.laws.proofs.Maps.{length-of, nth-map}
@@ -18,25 +18,7 @@ use Rattle.model.specs.Timeline.{Row, cell_at, cell_place, timeline}
 use Rattle.model.specs.State.{State, engine, new}
 use Rattle.model.specs.Views.{cell_byte, cell_there, cell_view, row_view, views}
 use Rattle.model.specs.Requests.{Request, requests, row_disassembly, short_for, text_at}
-use Rattle.model.specs.Calls.{
-  Made,
-  answer,
-  calls,
-  made,
-  make,
-  make_memory,
-  make_refusal,
-  memories,
-  memory_made,
-  no_machine,
-  refused,
-  runs,
-  shown_cell,
-  shown_number,
-  shown_row,
-  shown_text,
-  text,
-}
+use Rattle.model.specs.Calls.{Made, answer, calls, made, make, make_memory, make_refusal, memories, memory_made, no_machine, refused, runs, shown_cell, shown_number, shown_row, shown_text, text}
 use Rattle.refusals.proofs.Demand1.{made-checks, made-room}
 use Rattle.model.specs.RustTimeline.{RustCell, RustRow, rust_timeline, rust_cell, rust_runs}
 use Rattle.rows.specs.Shown.{rust_row_view, rust_row_text, CellShown, Both, TimelineShown, TimelineTheorem}
@@ -57,7 +39,7 @@ text-answered
     → answer s m (text t room) ≡ shown_text x
 unfolding calls
 text-answered s m t room x e l =
-    ap (λ (b : Bool). when_some (cond b (some 13) none) (shown_text (text_at s t)) refused) (ap (short_for room) e ∙ l) ∙ ap shown_text e
+    ap (λ (b : Bool). when_some (cond b (Some 13) None) (shown_text (text_at s t)) refused) (ap (short_for room) e ∙ l) ∙ ap shown_text e
 
 -- ── One cell ────────────────────────────────────────────────────────────────
 
@@ -65,24 +47,24 @@ right-shown : (s : State) (m : List ℕ) (x : RustCell) → Right s.machine.spec
 unfolding views requests
 right-shown s m x r =
     record {
-      label = λ room l. text-answered s m _ room (some x.label) r.label (le-ltb room (length x.label) l);
+      label = λ room l. text-answered s m _ room (Some x.label) r.label (le-ltb room (length x.label) l);
       state = r.state;
       role = r.role;
     }
 
 cells-both
     : (s : State) (m : List ℕ) (xs : List RustCell) (c : ℕ) → All (Right s.machine.specs) xs
-    → Both (CellShown s m) (omap cell_view (nth (map byte_of xs) c)) (nth xs c)
+    → Both (CellShown s m) (option_map cell_view (slice_get (map byte_of xs) c)) (slice_get xs c)
 unfolding lists
 cells-both s m [] c r = tt
 cells-both s m (x ∷ xs) zero r = right-shown s m x r.0
 cells-both s m (x ∷ xs) (suc c) r = cells-both s m xs c r.1
 
-cell-is : (h : ℕ) (m : List ℕ) (r : Row) (y : RustRow) (c : ℕ) → RowShown h m r y → cell_at h r m c ≡ nth (map byte_of y.cells) c
+cell-is : (h : ℕ) (m : List ℕ) (r : Row) (y : RustRow) (c : ℕ) → RowShown h m r y → cell_at h r m c ≡ slice_get (map byte_of y.cells) c
 unfolding timeline
 cell-is h m r y c x = go (ltb c r.count) refl
   where
-    go : (b : Bool) → ltb c r.count ≡ b → cond b (nth m (cell_place h r c)) none ≡ nth (map byte_of y.cells) c
+    go : (b : Bool) → ltb c r.count ≡ b → cond b (slice_get m (cell_place h r c)) None ≡ slice_get (map byte_of y.cells) c
     go true e = x.bytes c (ltb-true c r.count e)
     go false e =
         sym (nth_past (map byte_of y.cells) c (omega (arith, ltb-false c r.count e, x.same_count, length-of byte_of y.cells)))
@@ -90,22 +72,22 @@ cell-is h m r y c x = go (ltb c r.count) refl
 module _ (s : State) (m : List ℕ) (h : ℕ) where
   rows_both
       : (rs : List Row) (ys : List RustRow) (i c : ℕ) → All2 (RowShown h m) rs ys → All (RightRow s.machine.specs) ys
-      → Both (CellShown s m) (omap cell_view (when_some (nth rs i) none (λ (r : Row). cell_at h r m c))) (rust_cell ys i c)
+      → Both (CellShown s m) (option_map cell_view (when_some (slice_get rs i) None (λ (r : Row). cell_at h r m c))) (rust_cell ys i c)
   unfolding lists rust_timeline
   rows_both rs ys i c none2 q = tt
   rows_both rs ys zero c (more2 {a = r} {b = y} x xs) q =
-      subst (λ (o : Option ℕ). Both (CellShown s m) (omap cell_view o) (nth y.cells c)) (sym (cell-is h m r y c x))
+      subst (λ (o : Option ℕ). Both (CellShown s m) (option_map cell_view o) (slice_get y.cells c)) (sym (cell-is h m r y c x))
       (cells-both s m y.cells c q.0)
   rows_both rs ys (suc i) c (more2 {as' = rs'} {bs = ys'} x xs) q = rows_both rs' ys' i c xs q.1
 
   -- ── One row ───────────────────────────────────────────────────────────────
 
-  rows-viewed : (rs : List Row) (ys : List RustRow) (i : ℕ) → All2 (RowShown h m) rs ys → omap row_view (nth rs i) ≡ omap rust_row_view (nth ys i)
+  rows-viewed : (rs : List Row) (ys : List RustRow) (i : ℕ) → All2 (RowShown h m) rs ys → option_map row_view (slice_get rs i) ≡ option_map rust_row_view (slice_get ys i)
   unfolding lists views rust_row_view
   rows-viewed rs ys i none2 = refl
   rows-viewed rs ys zero (more2 {a = r} {b = y} x xs) =
       λ j.
-      some
+      Some
       (record {
         id = x.same_id j;
         address = x.same_address j;
@@ -118,19 +100,19 @@ module _ (s : State) (m : List ℕ) (h : ℕ) where
 
   rows_text
       : (rs : List Row) (ys : List RustRow) (i : ℕ) → All2 (RowShown h m) rs ys
-      → omap (λ (r : Row). r.disassembly) (nth rs i) ≡ rust_row_text ys i
+      → option_map (λ (r : Row). r.disassembly) (slice_get rs i) ≡ rust_row_text ys i
   unfolding lists rust_row_text
   rows_text rs ys i none2 = refl
-  rows_text rs ys zero (more2 {a = r} {b = y} x xs) = ap some x.same_text
+  rows_text rs ys zero (more2 {a = r} {b = y} x xs) = ap Some x.same_text
   rows_text rs ys (suc i) (more2 {as' = rs'} {bs = ys'} x xs) = rows_text rs' ys' i xs
 
   cell-placed
-      : (r : Row) (y : RustRow) (j : ℕ) (x : RustCell) → RowShown h m r y → nth y.cells j ≡ some x
-      → nth m (y.id % h * 200 + (y.lost + j) % 200) ≡ some x.byte
+      : (r : Row) (y : RustRow) (j : ℕ) (x : RustCell) → RowShown h m r y → slice_get y.cells j ≡ Some x
+      → slice_get m (y.id % h * 200 + (y.lost + j) % 200) ≡ Some x.byte
   unfolding timeline
   cell-placed r y j x w e =
-      ap (λ (p : ℕ). nth m p) there ∙ w.bytes j (omega (arith, nth-below y.cells j x e, w.same_count)) ∙ nth-map byte_of y.cells j
-      ∙ ap (omap byte_of) e
+      ap (λ (p : ℕ). slice_get m p) there ∙ w.bytes j (omega (arith, nth-below y.cells j x e, w.same_count)) ∙ nth-map byte_of y.cells j
+      ∙ ap (option_map byte_of) e
     where
       slot-there : y.id % h ≡ r.id % h
       slot-there = ap (λ (i : ℕ). i % h) (sym w.same_id)
@@ -142,13 +124,12 @@ module _ (s : State) (m : List ℕ) (h : ℕ) where
       there = omega (arith, slot-there, turned)
 
   rows-placed
-      : (rs : List Row) (ys : List RustRow) (i j : ℕ) (y : RustRow) (x : RustCell) → All2 (RowShown h m) rs ys → nth ys i ≡ some y
-      → nth y.cells j ≡ some x → nth m (y.id % h * 200 + (y.lost + j) % 200) ≡ some x.byte
-  unfolding nth
+      : (rs : List Row) (ys : List RustRow) (i j : ℕ) (y : RustRow) (x : RustCell) → All2 (RowShown h m) rs ys → slice_get ys i ≡ Some y
+      → slice_get y.cells j ≡ Some x → slice_get m (y.id % h * 200 + (y.lost + j) % 200) ≡ Some x.byte
   rows-placed rs ys i j y x none2 e f = none-some y e
   rows-placed rs ys zero j y x (more2 {a = r} {b = z} w ws) e f =
-      subst (λ (z : RustRow). nth m (z.id % h * 200 + (z.lost + j) % 200) ≡ some x.byte) (some_inj z y e)
-      (cell-placed r z j x w (ap (λ (z : RustRow). nth z.cells j) (some_inj z y e) ∙ f))
+      subst (λ (z : RustRow). slice_get m (z.id % h * 200 + (z.lost + j) % 200) ≡ Some x.byte) (some_inj z y e)
+      (cell-placed r z j x w (ap (λ (z : RustRow). slice_get z.cells j) (some_inj z y e) ∙ f))
   rows-placed rs ys (suc i) j y x (more2 {as' = rs'} {bs = ys'} w ws) e f = rows-placed rs' ys' i j y x ws e f
 
 -- ── The statement ───────────────────────────────────────────────────────────
@@ -162,8 +143,8 @@ timeline-is lent s m xs x sound =
       row_text = λ i room l. text-answered s m (row_disassembly i) room (rust_row_text xs i) (rows_text s m h s.log.rows xs i x.shown) l;
       cell_view =
           λ i c. (
-            omap cell_view (cell_byte s m i c),
-            ap (λ (b : Bool). when_some (cond b (some 13) none) (shown_cell (omap cell_view (cell_byte s m i c))) refused)
+            option_map cell_view (cell_byte s m i c),
+            ap (λ (b : Bool). when_some (cond b (Some 13) None) (shown_cell (option_map cell_view (cell_byte s m i c))) refused)
                 (ap (λ (b : Bool). cell_there s i c && b) long ∙ never (cell_there s i c)),
             rows_both s m h s.log.rows xs i c x.shown sound.right,
           );
@@ -192,7 +173,7 @@ unfolding config
 few_kinds [] l = omega arith
 few_kinds (k ∷ ks) l = omega (arith, length-of at_least_one (k ∷ ks), l)
 
-new-sound : (d : PipelineShape) (entry lent : ℕ) → make_refusal d lent ≡ none → Sound (new d entry) []
+new-sound : (d : PipelineShape) (entry lent : ℕ) → make_refusal d lent ≡ None → Sound (new d entry) []
 unfolding calls engine config
 new-sound d entry lent p =
     record {
@@ -219,7 +200,7 @@ unfolding make make_memory
 timeline-shown d entry lent s cs e = go (make_refusal d (length lent)) refl e
   where
     from-new
-        : make_refusal d (length lent) ≡ none
+        : make_refusal d (length lent) ≡ None
         → TimelineShown lent (runs (new d entry) cs) (memories (new d entry) (memory_made d lent) cs) (rust_runs (new d entry) [] cs)
     from-new p =
         timeline-is lent (runs (new d entry) cs) (memories (new d entry) (memory_made d lent) cs) (rust_runs (new d entry) [] cs)
@@ -229,7 +210,7 @@ timeline-shown d entry lent s cs e = go (make_refusal d (length lent)) refl e
     go
         : (o : Option ℕ) → make_refusal d (length lent) ≡ o → when_some o (made (new d entry)) no_machine ≡ made s
         → TimelineShown lent (runs s cs) (memories s (when_some o (memory_made d lent) (λ (n : ℕ). lent)) cs) (rust_runs s [] cs)
-    go none p q =
+    go None p q =
         subst (λ (t : State). TimelineShown lent (runs t cs) (memories t (memory_made d lent) cs) (rust_runs t [] cs)) (made-inj (new d entry) s q)
         (from-new p)
-    go (some n) p q = absurd (true≢false (sym (ap is_made q)))
+    go (Some n) p q = absurd (true≢false (sym (ap is_made q)))

@@ -3,12 +3,13 @@ use Prim.Native.Nat.{ℕ, ◌≤◌}
 use native.Mathlib.Omega.{arith}
 use mathlib.Core.Path.{◌≡◌, refl, sym, subst}
 use mathlib.Core.Bool.{Bool, true, false, cond}
-use mathlib.Core.Option.{Option, none, some}
+use Rattle.std.specs.Prelude.{Option, None, Some}
 use mathlib.Core.List.{List, [], ◌∷◌, ◌++◌, map}
 use lib.Dec.{eqb}
 use lib.ListN.{length}
 use borrow.Author.Tests.{eqb-false}
-use Rattle.laws.specs.Lists.{All, any, modify}
+use Rattle.laws.specs.Lists.{All, modify}
+use Rattle.std.specs.List.{list_any}
 use Rattle.laws.specs.Numbers.{max64, saturating_add}
 use Rattle.laws.specs.Optional.{when_some}
 use Rattle.laws.specs.Texts.{bytes}
@@ -19,86 +20,15 @@ use Rattle.model.specs.Timeline.{Row, open_writes, push_all, push_all_writes, ti
 use Rattle.model.specs.Units.{is_busy}
 use Rattle.model.specs.State.{State, engine}
 use Rattle.model.specs.Write.{writing}
-use Rattle.model.specs.Issue.{
-  complete_offer,
-  flushed_cell,
-  free_unit,
-  issue,
-  issue_choose,
-  issue_front,
-  issue_to,
-  issuing,
-  learn,
-  redirect_writes,
-  taken,
-  timeline_cells,
-  timeline_writes,
-}
+use Rattle.model.specs.Issue.{complete_offer, flushed_cell, free_unit, issue, issue_choose, issue_front, issue_to, issuing, learn, redirect_writes, taken, timeline_cells, timeline_writes}
 use Rattle.model.specs.Scoreboard.{advance, advance_writes, after_issue, before_issue, close_cycle, closed, fetched, scoreboard, stops}
-use Rattle.model.specs.Calls.{
-  Call,
-  advance as advance-call,
-  after,
-  calls,
-  capacity,
-  cell,
-  fault as fault-call,
-  fetch,
-  halt as halt-call,
-  memories,
-  memory_after,
-  overlap,
-  redirect,
-  refusal,
-  reset,
-  resolve as resolve-call,
-  retire,
-  retry as retry-call,
-  run,
-  runs,
-  sets,
-  start,
-  text,
-  view,
-}
+use Rattle.model.specs.Calls.{Call, advance as advance-call, after, calls, capacity, cell, fault as fault-call, fetch, halt as halt-call, memories, memory_after, overlap, redirect, refusal, reset, resolve as resolve-call, retire, retry as retry-call, run, runs, sets, start, text, view}
 use Rattle.runs.proofs.Tracks.{fetch-number}
-use Rattle.model.specs.RustTimeline.{
-  RustCell,
-  RustRow,
-  rust_timeline,
-  rust_advance,
-  rust_after,
-  rust_flushed,
-  rust_push_all,
-  rust_run,
-  rust_runs,
-  dropped_cells,
-  recorded_cells,
-}
+use Rattle.model.specs.RustTimeline.{RustCell, RustRow, rust_timeline, rust_advance, rust_after, rust_flushed, rust_push_all, rust_run, rust_runs, dropped_cells, recorded_cells}
 use Rattle.rows.proofs.Bytes.{write_all-append}
 use Rattle.rows.proofs.Holds.{Holds, Shows, coded, holds-push-all, holds-cleared, holds-open}
-use Rattle.rows.proofs.Declared.{
-  Below,
-  Kinds,
-  kinds-built,
-  kinds-rebuilt,
-  kinds-start,
-  kinds-retry,
-  kinds-stopped,
-  kinds-issued,
-  kinds-advance,
-}
-use Rattle.rows.proofs.Labels.{
-  coded-dropped,
-  coded-recorded,
-  RightRow,
-  dropped-right,
-  recorded-right,
-  right-push_all,
-  right-open,
-  noted-length,
-  noted-right,
-}
+use Rattle.rows.proofs.Declared.{Below, Kinds, kinds-built, kinds-rebuilt, kinds-start, kinds-retry, kinds-stopped, kinds-issued, kinds-advance}
+use Rattle.rows.proofs.Labels.{coded-dropped, coded-recorded, RightRow, dropped-right, recorded-right, right-push_all, right-open, noted-length, noted-right}
 
 module _ (lent : List ℕ) where
   Holds-pushed
@@ -113,15 +43,15 @@ module _ (lent : List ℕ) where
   shows-closed s m xs x = go s.offer.writing
     where
       go : (w : Option ℕ) → Shows lent (close_cycle (complete_offer w s)) m xs
-      go none = x
-      go (some n) = x
+      go None = x
+      go (Some n) = x
 
   shows-before
       : (r : Option ℕ) (s : State) (m : List ℕ) (xs : List RustRow) → Shows lent s m xs
       → Shows lent (before_issue r s) (write_all (redirect_writes r s) m) (rust_flushed r s xs)
   unfolding scoreboard timeline rust_timeline issuing engine
-  shows-before none s m xs x = x
-  shows-before (some n) s m xs x =
+  shows-before None s m xs x = x
+  shows-before (Some n) s m xs x =
       Holds-pushed s.machine.history s.front.next_row s.front.next_seq (dropped_cells s.queue) (map flushed_cell s.queue)
       s.log.rows m xs (coded-dropped s.queue) x
 
@@ -130,9 +60,9 @@ module _ (lent : List ℕ) where
       : (o : Op) (rest : List Op) (r w : List ℕ) (tk fr : Option ℕ) (s : State) (m : List ℕ) (xs : List RustRow) → Shows lent s m xs
       → Shows lent (issue_to o rest r w tk fr s) m xs
   unfolding issuing engine
-  shows-to o rest r w (some t) fr s m xs x = x
-  shows-to o rest r w none none s m xs x = x
-  shows-to o rest r w none (some i) s m xs x = x
+  shows-to o rest r w (Some t) fr s m xs x = x
+  shows-to o rest r w None None s m xs x = x
+  shows-to o rest r w None (Some i) s m xs x = x
 
   shows-choose
       : (b y : Bool) (o : Op) (rest : List Op) (s : State) (m : List ℕ) (xs : List RustRow) → Shows lent s m xs
@@ -200,7 +130,7 @@ module _ (lent : List ℕ) where
       (subst (λ (q : ℕ). Holds lent s.machine.history s.log.rows s.front.next_row q m xs) (sym x.same_number) x))
 
   shows-run
-      : (s : State) (c : Call) (m : List ℕ) (xs : List RustRow) → refusal s c ≡ none → Shows lent s m xs
+      : (s : State) (c : Call) (m : List ℕ) (xs : List RustRow) → refusal s c ≡ None → Shows lent s m xs
       → Shows lent (run s c) (write_all (sets s c) m) (rust_run s c xs)
   unfolding calls timeline rust_timeline writing engine scoreboard
   shows-run s start m xs p x = x
@@ -230,8 +160,8 @@ module _ (lent : List ℕ) where
           : (o : Option ℕ) → refusal s c ≡ o
           → Shows lent (when_some o (run s c) (λ (n : ℕ). s)) (when_some o (write_all (sets s c) m) (λ (n : ℕ). m))
           (when_some o (rust_run s c xs) (λ (n : ℕ). xs))
-      go none p = shows-run s c m xs p x
-      go (some n) p = x
+      go None p = shows-run s c m xs p x
+      go (Some n) p = x
 
   pub shows-runs
       : (cs : List Call) (s : State) (m : List ℕ) (xs : List RustRow) → Shows lent s m xs
@@ -264,8 +194,8 @@ sound-advance r s xs h =
     after-all = kinds-advance ks r s (record { same = refl; known = h.known })
 
     flushed : (w : Option ℕ) → All (RightRow ks) (rust_flushed w (closed s) xs)
-    flushed none = h.right
-    flushed (some target) = right-push_all ks (dropped_cells (closed s).queue) xs (dropped-right ks (closed s).queue) h.right
+    flushed None = h.right
+    flushed (Some target) = right-push_all ks (dropped_cells (closed s).queue) xs (dropped-right ks (closed s).queue) h.right
 
     go
         : (b : Bool)
@@ -290,7 +220,7 @@ sound-run s (capacity k n) xs h =
       few = omega (arith, noted-length s.machine.specs k n, h.few);
       known =
           subst (λ (j : ℕ). All (Below j) (run s (capacity k n)).units) (sym (noted-length s.machine.specs k n))
-          (kinds-rebuilt (length s.machine.specs) (any is_busy s.units) (modify k (with_capacity n) s.machine.specs) s.units
+          (kinds-rebuilt (length s.machine.specs) (list_any is_busy s.units) (modify k (with_capacity n) s.machine.specs) s.units
           (omega (arith, noted-length s.machine.specs k n)) h.known);
       right = noted-right s.machine.specs k n xs h.right;
     }
@@ -310,8 +240,8 @@ unfolding calls rust_timeline
 sound-after s c xs h = go (refusal s c)
   where
     go : (o : Option ℕ) → Sound (when_some o (run s c) (λ (n : ℕ). s)) (when_some o (rust_run s c xs) (λ (n : ℕ). xs))
-    go none = sound-run s c xs h
-    go (some n) = h
+    go None = sound-run s c xs h
+    go (Some n) = h
 
 pub sound-runs : (cs : List Call) (s : State) (xs : List RustRow) → Sound s xs → Sound (runs s cs) (rust_runs s xs cs)
 unfolding calls rust_timeline

@@ -15,33 +15,13 @@
 --   branch_pending, system_pending                            s.marks.branch and s.marks.system
 --   timeline        `rows` are s.log.rows with the lent cell memory, `capacity` is s.machine.history: the theorem below
 -- Ours, and in no field of the Rust: s.offer.retired, s.front.in_cycle, s.front.invited.
-use Rattle.std.specs.Prelude.{ℕ, suc, ◌+◌, ◌*◌, ◌/◌, ◌%◌, ◌≤◌, ◌≡◌, false, cond, List, [], ◌∷◌, eqb, ltb, length}
-use Rattle.std.proofs.Math.Option.{Option, none, some}
-use Rattle.laws.specs.Optional.{omap}
-use Rattle.laws.specs.Lists.{nth}
+use Rattle.std.specs.Prelude.{ℕ, suc, ◌+◌, ◌*◌, ◌/◌, ◌%◌, ◌≤◌, ◌≡◌, false, cond, List, [], ◌∷◌, eqb, ltb, length, Option, None, Some, option_map, slice_get}
 use Rattle.laws.specs.Texts.{Text}
 use Rattle.model.specs.Config.{PipelineShape}
 use Rattle.model.specs.State.{State}
 use Rattle.model.specs.Views.{RowView, CellView}
 use Rattle.model.specs.Requests.{row_disassembly, cell_label, short_for}
-use Rattle.model.specs.Calls.{
-  Call,
-  view,
-  timeline_len,
-  timeline_row,
-  cell,
-  text,
-  made,
-  make,
-  make_memory,
-  shown_number,
-  shown_row,
-  shown_cell,
-  shown_text,
-  answer,
-  runs,
-  memories,
-}
+use Rattle.model.specs.Calls.{Call, view, timeline_len, timeline_row, cell, text, made, make, make_memory, shown_number, shown_row, shown_cell, shown_text, answer, runs, memories}
 use Rattle.model.specs.RustTimeline.{RustCell, RustRow, rust_cell, rust_runs}
 
 -- ── What the views show ─────────────────────────────────────────────────────
@@ -59,20 +39,20 @@ rust_row_view r =
     }
 
 unfoldable pub rust_row_text : List RustRow → ℕ → Option Text
-rust_row_text rust i = omap (λ (r : RustRow). r.disassembly) (nth rust i)
+rust_row_text rust i = option_map (λ (r : RustRow). r.disassembly) (slice_get rust i)
 
 -- A cell view is a cell of the Rust: the label's text as the request `cell_label` gives it, the state, the role.
 pub record CellShown (s : State) (m : List ℕ) (v : CellView) (x : RustCell) : Type 0 where
-  pub label : (room : ℕ) → length x.label ≤ room → answer s m (text (cell_label v.label) room) ≡ shown_text (some x.label)
+  pub label : (room : ℕ) → length x.label ≤ room → answer s m (text (cell_label v.label) room) ≡ shown_text (Some x.label)
   pub state : v.state ≡ x.state
   pub role : v.role ≡ x.role
 
 -- Both are missing, or both are there and P holds.
 abbrev pub Both : {A B : Type 0} → (A → B → Type 0) → Option A → Option B → Type 0
-Both P none none = Unit {0}
-Both P none (some b) = ⊥
-Both P (some a) none = ⊥
-Both P (some a) (some b) = P a b
+Both P None None = Unit {0}
+Both P None (Some b) = ⊥
+Both P (Some a) None = ⊥
+Both P (Some a) (Some b) = P a b
 
 -- ── What each byte of the cell memory is ────────────────────────────────────
 
@@ -88,7 +68,7 @@ slot_byte history (r ∷ rs) k q = cond (eqb (r.id % history) k) (cell_byte_at r
 
 -- Byte p of the memory; past the last slot it is the byte that making was lent.
 unfoldable pub memory_byte : ℕ → List RustRow → List ℕ → ℕ → Option ℕ
-memory_byte history rust lent p = cond (ltb p (history * 200)) (some (slot_byte history rust (p / 200) (p % 200))) (nth lent p)
+memory_byte history rust lent p = cond (ltb p (history * 200)) (Some (slot_byte history rust (p / 200) (p % 200))) (slice_get lent p)
 
 -- ── The statement ───────────────────────────────────────────────────────────
 
@@ -97,7 +77,7 @@ pub record TimelineShown (lent : List ℕ) (s : State) (m : List ℕ) (rust : Li
   -- timeline_len
   pub len : answer s m (view timeline_len) ≡ shown_number (length rust)
   -- timeline_row, and its disassembly where the buffer takes it
-  pub row : (i : ℕ) → answer s m (view (timeline_row i)) ≡ shown_row (omap rust_row_view (nth rust i))
+  pub row : (i : ℕ) → answer s m (view (timeline_row i)) ≡ shown_row (option_map rust_row_view (slice_get rust i))
   pub row_text
       : (i room : ℕ) → short_for room (rust_row_text rust i) ≡ false
       → answer s m (text (row_disassembly i) room) ≡ shown_text (rust_row_text rust i)
@@ -106,10 +86,10 @@ pub record TimelineShown (lent : List ℕ) (s : State) (m : List ℕ) (rust : Li
       : (i c : ℕ) → (v : Option CellView) × (answer s m (cell i c (length m)) ≡ shown_cell v) × Both (CellShown s m) v (rust_cell rust i c)
   -- each cell stands at document 01's place
   pub place
-      : (i j : ℕ) (r : RustRow) (x : RustCell) → nth rust i ≡ some r → nth r.cells j ≡ some x
-      → nth m ((r.id % s.machine.history) * 200 + (r.lost + j) % 200) ≡ some x.byte
+      : (i j : ℕ) (r : RustRow) (x : RustCell) → slice_get rust i ≡ Some r → slice_get r.cells j ≡ Some x
+      → slice_get m ((r.id % s.machine.history) * 200 + (r.lost + j) % 200) ≡ Some x.byte
   -- and this is every byte
-  pub byte : (p : ℕ) → nth m p ≡ memory_byte s.machine.history rust lent p
+  pub byte : (p : ℕ) → slice_get m p ≡ memory_byte s.machine.history rust lent p
 
 -- From every making that is not refused, after every list of calls: refused ones, resets, views and text requests included, each on the engine
 -- and the cell memory that the last one left.

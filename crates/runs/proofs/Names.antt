@@ -2,9 +2,9 @@
 use Prim.Native.Nat.{ℕ, zero, suc}
 use mathlib.Core.Path.{◌≡◌, refl, ap, subst}
 use mathlib.Core.Bool.{false}
-use mathlib.Core.Option.{some}
+use Rattle.std.specs.Prelude.{Some, slice_get}
 use mathlib.Core.List.{List, [], ◌∷◌}
-use Rattle.laws.specs.Lists.{All, All2, none2, more2, nth}
+use Rattle.laws.specs.Lists.{All, All2, none2, more2}
 use Rattle.laws.specs.Texts.{Text, same}
 use Rattle.laws.proofs.Choices.{either, none-some, some_inj, false-T}
 use Rattle.laws.proofs.Same.{same-eq, same-of-eq}
@@ -12,7 +12,7 @@ use Rattle.model.specs.Op.{Info}
 use Rattle.model.specs.Registers.{Interned, interned, intern, intern_all, resolve, registers}
 
 abbrev pub Extends : List Text → List Text → Type 0
-Extends ns ms = (k : ℕ) (a : Text) → nth ns k ≡ some a → nth ms k ≡ some a
+Extends ns ms = (k : ℕ) (a : Text) → slice_get ns k ≡ Some a → slice_get ms k ≡ Some a
 
 -- `a` is none of the names
 abbrev pub Apart : Text → List Text → Type 0
@@ -35,20 +35,19 @@ pub extends-trans : (ns ms ls : List Text) → Extends ns ms → Extends ms ls �
 extends-trans ns ms ls f g k a p = g k a (f k a p)
 
 extends-cons : (x : Text) (ns ms : List Text) → Extends ns ms → Extends (x ∷ ns) (x ∷ ms)
-unfolding nth
 extends-cons x ns ms f zero a p = p
 extends-cons x ns ms f (suc k) a p = f k a p
 
 module _ (a : Text) where
-  intern-found : (ns : List Text) → nth (intern ns a).names (intern ns a).number ≡ some a
-  unfolding registers nth
+  intern-found : (ns : List Text) → slice_get (intern ns a).names (intern ns a).number ≡ Some a
+  unfolding registers
   intern-found [] = refl
   intern-found (x ∷ xs) =
-      either (λ (z : Interned). nth z.names z.number ≡ some a) (same x a) (here x xs) (further x xs a)
-      (λ t. ap some (same-eq x a t)) (λ e. intern-found xs)
+      either (λ (z : Interned). slice_get z.names z.number ≡ Some a) (same x a) (here x xs) (further x xs a)
+      (λ t. ap Some (same-eq x a t)) (λ e. intern-found xs)
 
   intern-extends : (ns : List Text) → Extends ns (intern ns a).names
-  unfolding registers nth
+  unfolding registers
   intern-extends [] = λ k b p. none-some b p
   intern-extends (x ∷ xs) =
       either (λ (z : Interned). Extends (x ∷ xs) z.names) (same x a) (here x xs) (further x xs a) (λ t. extends-refl (x ∷ xs))
@@ -70,7 +69,7 @@ module _ (a : Text) where
 
 -- A name at the place of a number.
 abbrev pub At : List Text → Text → ℕ → Type 0
-At ns a k = nth ns k ≡ some a
+At ns a k = slice_get ns k ≡ Some a
 
 pub at_more : (ns ms : List Text) (bs : List Text) (ks : List ℕ) → Extends ns ms → All2 (At ns) bs ks → All2 (At ms) bs ks
 at_more ns ms bs ks f none2 = none2
@@ -114,15 +113,13 @@ pub resolve-written : (ns : List Text) (i : Info) → All2 (At (resolve ns i).na
 unfolding registers
 resolve-written ns i = all_found i.writes (intern_all ns i.sources).names
 
-apart-nth : (x a : Text) (ns : List Text) (k : ℕ) → Apart x ns → nth ns k ≡ some a → same x a ≡ false
-unfolding nth
+apart-nth : (x a : Text) (ns : List Text) (k : ℕ) → Apart x ns → slice_get ns k ≡ Some a → same x a ≡ false
 apart-nth x a [] k d p = none-some a p
 apart-nth x a (y ∷ ys) zero d p = subst (λ z. same x z ≡ false) (some_inj y a p) d.0
 apart-nth x a (y ∷ ys) (suc k) d p = apart-nth x a ys k d.1 p
 
 -- In a table of distinct names a name has one place.
-pub one_place : (ns : List Text) (a : Text) (j k : ℕ) → Distinct ns → nth ns j ≡ some a → nth ns k ≡ some a → j ≡ k
-unfolding nth
+pub one_place : (ns : List Text) (a : Text) (j k : ℕ) → Distinct ns → slice_get ns j ≡ Some a → slice_get ns k ≡ Some a → j ≡ k
 one_place [] a j k d p q = none-some a p
 one_place (x ∷ xs) a zero zero d p q = refl
 one_place (x ∷ xs) a zero (suc k) d p q = false-T (same x a) (apart-nth x a xs k d.0 q) (same-of-eq x a (some_inj x a p))

@@ -3,13 +3,14 @@ use Prim.Native.Nat.{ℕ, zero, suc, ◌≤◌}
 use native.Mathlib.Omega.{arith}
 use mathlib.Core.Path.{◌≡◌, refl, sym, ◌∙◌, ap, subst}
 use mathlib.Core.Bool.{Bool, true, false, cond}
-use mathlib.Core.Option.{Option, none, some}
+use Rattle.std.specs.Prelude.{Option, None, Some, slice_get}
 use mathlib.Core.List.{List, [], ◌∷◌, ◌++◌, map}
 use lib.Dec.{eqb}
 use lib.ListN.{length, length-append}
 use borrow.Author.Tests.{eqb-false}
 use Rattle.capability.specs.declared.PipelineHazardKind.{PipelineHazardKind}
-use Rattle.laws.specs.Lists.{All, any, modify, nth}
+use Rattle.laws.specs.Lists.{All, modify}
+use Rattle.std.specs.List.{list_any}
 use Rattle.laws.specs.Numbers.{max64}
 use Rattle.laws.specs.Optional.{when_some}
 use Rattle.laws.specs.Texts.{Text}
@@ -29,14 +30,12 @@ use Rattle.runs.specs.Runs.{given_to, accepted, NoReset}
 
 -- ── Lists ───────────────────────────────────────────────────────────────────
 
-pub nth_left : {A : Type 0} (xs ys : List A) (k : ℕ) (a : A) → nth xs k ≡ some a → nth (xs ++ ys) k ≡ some a
-unfolding nth
+pub nth_left : {A : Type 0} (xs ys : List A) (k : ℕ) (a : A) → slice_get xs k ≡ Some a → slice_get (xs ++ ys) k ≡ Some a
 nth_left [] ys k a p = none-some a p
 nth_left (x ∷ xs) ys zero a p = p
 nth_left (x ∷ xs) ys (suc k) a p = nth_left xs ys k a p
 
-nth_last : {A : Type 0} (xs : List A) (a : A) → nth (xs ++ (a ∷ [])) (length xs) ≡ some a
-unfolding nth
+nth_last : {A : Type 0} (xs : List A) (a : A) → slice_get (xs ++ (a ∷ [])) (length xs) ≡ Some a
 nth_last [] a = refl
 nth_last (x ∷ xs) a = nth_last xs a
 
@@ -49,8 +48,8 @@ append-three [] ys zs = refl
 append-three (x ∷ xs) ys zs = ap (λ l. x ∷ l) (append-three xs ys zs)
 
 abbrev pub Each : {A : Type 0} → (A → Type 0) → Option A → Type 0
-Each P none = Unit {0}
-Each P (some x) = P x
+Each P None = Unit {0}
+Each P (Some x) = P x
 
 module _ {A : Type 0} (P : A → Type 0) where
   pub all_map : {B : Type 0} (Q : B → Type 0) (f : A → B) → ((x : A) → P x → Q (f x)) → (xs : List A) → All P xs → All Q (map f xs)
@@ -83,21 +82,21 @@ module _ {A : Type 0} (P : A → Type 0) where
 
 -- The names after a look, if there was one.
 abbrev pub learn-from : List Text → Option Op → List Text
-learn-from ns none = ns
-learn-from ns (some o) = (resolve ns o.info).names
+learn-from ns None = ns
+learn-from ns (Some o) = (resolve ns o.info).names
 
 pub closed-names : (s : State) → (closed s).names ≡ s.names
 unfolding issuing scoreboard
 closed-names s = go s.offer.writing
   where
     go : (w : Option ℕ) → (complete_offer w s).names ≡ s.names
-    go none = refl
-    go (some n) = refl
+    go None = refl
+    go (Some n) = refl
 
 pub before-names : (r : Option ℕ) (s : State) → (before_issue r s).names ≡ s.names
 unfolding scoreboard issuing
-before-names none s = refl
-before-names (some n) s = refl
+before-names None s = refl
+before-names (Some n) s = refl
 
 issue-names : (s : State) → (issue s).names ≡ learn-from s.names (looked_at s)
 unfolding issuing registers
@@ -105,9 +104,9 @@ issue-names s = front s.queue
   where
     to
         : (o : Op) (rest : List Op) (r w : List ℕ) (tk fr : Option ℕ) (t : State) → (issue_to o rest r w tk fr t).names ≡ t.names
-    to o rest r w (some x) fr t = refl
-    to o rest r w none none t = refl
-    to o rest r w none (some n) t = refl
+    to o rest r w (Some x) fr t = refl
+    to o rest r w None None t = refl
+    to o rest r w None (Some n) t = refl
 
     choose : (b y : Bool) (o : Op) (rest : List Op) → (issue_choose b y o rest s).names ≡ learn-from s.names (look_choose b y o)
     choose true y o rest = refl
@@ -127,7 +126,7 @@ advance-names r s = go (stops s)
   where
     go
         : (b : Bool)
-        → (cond b (closed s) (after_issue (issue (before_issue r (closed s))))).names ≡ learn-from s.names (cond b none (looked_at (before_issue r (closed s))))
+        → (cond b (closed s) (after_issue (issue (before_issue r (closed s))))).names ≡ learn-from s.names (cond b None (looked_at (before_issue r (closed s))))
     go true = closed-names s
     go false =
         issue-names (before_issue r (closed s))
@@ -157,19 +156,19 @@ after-names s c n = go (refusal s c)
   where
     go
         : (o : Option ℕ)
-        → (when_some o (run s c) (λ (m : ℕ). s)).names ≡ learn-from s.names (when_some o (looked s c) (λ (m : ℕ). none))
-    go none = run-names s c n
-    go (some m) = refl
+        → (when_some o (run s c) (λ (m : ℕ). s)).names ≡ learn-from s.names (when_some o (looked s c) (λ (m : ℕ). None))
+    go None = run-names s c n
+    go (Some m) = refl
 
 -- ── Operations ──────────────────────────────────────────────────────────────
 
 -- Of a number and an info: it was fetched so, or it stands in a unit never used.
 pub data Known (is : List Info) (n : ℕ) (i : Info) : Type 0 where
-  in_table : nth is n ≡ some i → Known is n i
+  in_table : slice_get is n ≡ Some i → Known is n i
   unused : i ≡ no_info → Known is n i
 
 abbrev pub Tracked : List Info → Op → Type 0
-Tracked is o = nth is o.core.seq ≡ some o.info
+Tracked is o = slice_get is o.core.seq ≡ Some o.info
 
 abbrev pub KnownUnit : List Info → FunctionalUnit → Type 0
 KnownUnit is u = Known is u.op.core.seq u.op.info
@@ -190,13 +189,13 @@ module _ (is : List Info) where
 
   held_out : (o : Option ℕ) (us : List FunctionalUnit) → All (KnownUnit is) us → All (KnownUnit is) (take_out o us)
   unfolding writing
-  held_out none us p = p
-  held_out (some i) us p = all-modify (KnownUnit is) i (with_busy false) (λ u x. x) us p
+  held_out None us p = p
+  held_out (Some i) us p = all-modify (KnownUnit is) i (with_busy false) (λ u x. x) us p
 
   held_back : (o : Option ℕ) (us : List FunctionalUnit) → All (KnownUnit is) us → All (KnownUnit is) (put_back o us)
   unfolding writing
-  held_back none us p = p
-  held_back (some i) us p = all-modify (KnownUnit is) i (with_busy true) (λ u x. x) us p
+  held_back None us p = p
+  held_back (Some i) us p = all-modify (KnownUnit is) i (with_busy true) (λ u x. x) us p
 
   held-instances : (spec i n : ℕ) → All (KnownUnit is) (instances spec i n)
   unfolding units
@@ -220,8 +219,8 @@ module _ (is : List Info) where
   held-closed s h = go s.offer.writing
     where
       go : (w : Option ℕ) → Held is (Rattle.model.specs.Scoreboard.close_cycle (complete_offer w s))
-      go none = record { queued = h.queued; in_units = h.in_units; counted = h.counted; few = h.few }
-      go (some n) =
+      go None = record { queued = h.queued; in_units = h.in_units; counted = h.counted; few = h.few }
+      go (Some n) =
           record {
             queued = h.queued;
             in_units =
@@ -233,7 +232,7 @@ module _ (is : List Info) where
 
   held-before : (r : Option ℕ) (s : State) → Held is s → Held is (before_issue r s)
   unfolding scoreboard issuing units
-  held-before none s h =
+  held-before None s h =
       record {
         queued = h.queued;
         in_units =
@@ -243,7 +242,7 @@ module _ (is : List Info) where
         counted = h.counted;
         few = h.few;
       }
-  held-before (some n) s h =
+  held-before (Some n) s h =
       record {
         queued = tt;
         in_units =
@@ -258,7 +257,7 @@ module _ (is : List Info) where
   unfolding issuing
   held-block k d s h =
       record {
-        queued = all-modify (Tracked is) 0 (with_hazard (some k)) (λ o x. x) s.queue h.queued;
+        queued = all-modify (Tracked is) 0 (with_hazard (Some k)) (λ o x. x) s.queue h.queued;
         in_units = h.in_units;
         counted = h.counted;
         few = h.few;
@@ -268,9 +267,9 @@ module _ (is : List Info) where
       : (o : Op) (rest : List Op) (r w : List ℕ) (tk fr : Option ℕ) (s : State) → Tracked is o → All (Tracked is) rest → Held is s
       → Held is (issue_to o rest r w tk fr s)
   unfolding issuing units
-  held-issue-to o rest r w (some x) fr s p q h = held-block _ _ s h
-  held-issue-to o rest r w none none s p q h = held-block _ _ s h
-  held-issue-to o rest r w none (some n) s p q h =
+  held-issue-to o rest r w (Some x) fr s p q h = held-block _ _ s h
+  held-issue-to o rest r w None None s p q h = held-block _ _ s h
+  held-issue-to o rest r w None (Some n) s p q h =
       record {
         queued = q;
         in_units = all-modify (KnownUnit is) n (occupy o r w (waits_on s.producer r)) (λ u x. in_table p) s.units h.in_units;
@@ -334,7 +333,7 @@ module _ (is : List Info) where
   unfolding issuing scoreboard
   advance-tracked r s h = go (stops s)
     where
-      go : (b : Bool) → Each (Tracked is) (cond b none (looked_at (before_issue r (closed s))))
+      go : (b : Bool) → Each (Tracked is) (cond b None (looked_at (before_issue r (closed s))))
       go true = tt
       go false =
           look-tracked (before_issue r (closed s)).queue (before_issue r (closed s)).marks
@@ -362,16 +361,16 @@ module _ (is : List Info) where
   unfolding calls
   looked_by-tracked s c h = go (refusal s c)
     where
-      go : (o : Option ℕ) → Each (Tracked is) (when_some o (looked s c) (λ (n : ℕ). none))
-      go none = looked-tracked s c h
-      go (some n) = tt
+      go : (o : Option ℕ) → Each (Tracked is) (when_some o (looked s c) (λ (n : ℕ). None))
+      go None = looked-tracked s c h
+      go (Some n) = tt
 
   held_start : (s : State) → Held is s → Held is (start_cycle s)
   unfolding writing units
   held_start s h =
       let t = writable_unit (open_cycle s).units in
       record {
-        queued = all_map (Tracked is) (Tracked is) (with_hazard none) (λ o x. x) s.queue h.queued;
+        queued = all_map (Tracked is) (Tracked is) (with_hazard None) (λ o x. x) s.queue h.queued;
         in_units =
             held_out t.found (mark_blocked t.turned_away (open_cycle s).units)
             (held-marked t.turned_away (open_cycle s).units
@@ -405,7 +404,7 @@ module _ (is : List Info) where
   held-capacity k n s h =
       record {
         queued = h.queued;
-        in_units = held-rebuilt (any is_busy s.units) (modify k (with_capacity n) s.machine.specs) s.units h.in_units;
+        in_units = held-rebuilt (list_any is_busy s.units) (modify k (with_capacity n) s.machine.specs) s.units h.in_units;
         counted = h.counted;
         few = h.few;
       }
@@ -422,7 +421,7 @@ module _ (is : List Info) where
             all_append (Tracked (is ++ (g.info ∷ []))) s.queue (fetched_op g s ∷ [])
             (all-weaken (Tracked is) (Tracked (is ++ (g.info ∷ []))) (λ o x. nth_left is (g.info ∷ []) o.core.seq o.info x) s.queue
             h.queued)
-            (subst (λ n. nth (is ++ (g.info ∷ [])) n ≡ some g.info) (sym h.counted) (nth_last is g.info), tt);
+            (subst (λ n. slice_get (is ++ (g.info ∷ [])) n ≡ Some g.info) (sym h.counted) (nth_last is g.info), tt);
         in_units =
             all-weaken (KnownUnit is) (KnownUnit (is ++ (g.info ∷ []))) (λ u x. held_grown (g.info ∷ []) u.op.core.seq u.op.info x)
             s.units h.in_units;
@@ -434,11 +433,11 @@ module _ (is : List Info) where
       below = eqb-false s.front.next_seq max64 e
 
 -- A fetch that is taken: numbers are not out.
-pub fetch-number : (s : State) (g : Given) (ml : ℕ) → refusal s (fetch g ml) ≡ none → eqb s.front.next_seq max64 ≡ false
+pub fetch-number : (s : State) (g : Given) (ml : ℕ) → refusal s (fetch g ml) ≡ None → eqb s.front.next_seq max64 ≡ false
 unfolding calls
 fetch-number s g ml p = (taken-checks s (fetch g ml) p).1.1.1.1.0
 
-pub held-run : (is : List Info) (s : State) (c : Call) → NoReset c → refusal s c ≡ none → Held is s → Held (is ++ given_to c) (run s c)
+pub held-run : (is : List Info) (s : State) (c : Call) → NoReset c → refusal s c ≡ None → Held is s → Held (is ++ given_to c) (run s c)
 unfolding calls writing scoreboard
 held-run is s start n p h = subst (λ l. Held l (run s start)) (sym (append-nil is)) (held_start is s h)
 held-run is s retire n p h = subst (λ l. Held l (run s retire)) (sym (append-nil is)) (held-as is s (run s retire) refl refl refl h)
@@ -463,5 +462,5 @@ held_after is s c n h = go (refusal s c) refl
     go
         : (o : Option ℕ) → refusal s c ≡ o
         → Held (is ++ when_some o (given_to c) (λ (m : ℕ). [])) (when_some o (run s c) (λ (m : ℕ). s))
-    go none p = held-run is s c n p h
-    go (some m) p = subst (λ l. Held l s) (sym (append-nil is)) h
+    go None p = held-run is s c n p h
+    go (Some m) p = subst (λ l. Held l s) (sym (append-nil is)) h

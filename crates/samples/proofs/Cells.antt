@@ -2,7 +2,7 @@
 use Prim.Native.Nat.{ℕ, ◌+◌, ◌%◌}
 use mathlib.Core.Path.{◌≡◌, ap}
 use mathlib.Core.Bool.{cond}
-use mathlib.Core.Option.{Option, none}
+use Rattle.std.specs.Prelude.{Option, None}
 use mathlib.Core.List.{List}
 use lib.Dec.{ltb}
 use lib.ListN.{drop}
@@ -13,4 +13,4 @@ use Rattle.samples.specs.Digest.{cell_in}
 pub same-cell : (history : ℕ) (w : Row) (m : List ℕ) (c : ℕ) → cell_in w (drop (slot history w.id) m) c ≡ cell_at history w m c
 unfolding cell_in cell_at cell_place
 same-cell history w m c =
-    ap (λ (x : Option ℕ). cond (ltb c w.count) x none) (nth_drop m (slot history w.id) ((w.oldest_at + c) % 200))
+    ap (λ (x : Option ℕ). cond (ltb c w.count) x None) (nth_drop m (slot history w.id) ((w.oldest_at + c) % 200))

@@ -1,7 +1,7 @@
 -- The model answers and shows what the Rust does, over the whole sample. Made by the harness: see docs/SAMPLES.md.
 use mathlib.Core.Path.{◌≡◌, refl}
 use mathlib.Core.Bool.{true}
-use Rattle.laws.specs.Lists.{all}
+use Rattle.std.specs.List.{list_all}
 use Rattle.model.specs.Everything.{everything}
 use Rattle.samples.specs.Digest.{digest}
 use Rattle.samples.specs.Lists.{agrees, lists_of_calls}
@@ -173,7 +173,7 @@ agrees-33 : agrees case_33 ≡ true
 unfolding everything digest lists_of_calls
 agrees-33 = refl
 
-pub sampled : all agrees sample ≡ true
+pub sampled : list_all agrees sample ≡ true
 sampled =
     all_true agrees sample (
       agrees-1,

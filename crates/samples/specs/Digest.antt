@@ -1,9 +1,6 @@
 -- All that an engine shows as a list of numbers, and one number for it, to hold the model against the Rust by computing.
 -- The list is made of the model's answers to views, cell views and text requests. The harness makes the same list from the Rust.
-use Rattle.std.specs.Prelude.{ℕ, zero, suc, ◌+◌, ◌*◌, ◌%◌, Bool, true, false, cond, List, [], ◌∷◌, ◌++◌, ltb, length, drop}
-use Rattle.std.proofs.Math.Option.{Option, none, some}
-use Rattle.laws.specs.Optional.{omap}
-use Rattle.laws.specs.Lists.{nth}
+use Rattle.std.specs.Prelude.{ℕ, zero, suc, ◌+◌, ◌*◌, ◌%◌, Bool, true, false, cond, List, [], ◌∷◌, ◌++◌, ltb, length, drop, Option, None, Some, option_map, slice_get}
 use Rattle.laws.specs.Texts.{Text}
 use Rattle.capability.specs.declared.PipelineHazardKind.{PipelineHazardKind}
 use Rattle.capability.specs.Numbers.{class_number, hazard_number, trace_number, role_number, edge_number, state_number, entry_number}
@@ -11,51 +8,10 @@ use Rattle.model.specs.Op.{Op}
 use Rattle.model.specs.Timeline.{Row, slot}
 use Rattle.model.specs.State.{Stats, State}
 use Rattle.model.specs.Scoreboard.{in_flight}
-use Rattle.model.specs.Views.{
-  SlotView,
-  OfferView,
-  StatusView,
-  StageView,
-  Edge,
-  UnitView,
-  TraceView,
-  RowView,
-  CellView,
-  cell_view,
-  OperandView,
-  StationView,
-  claims,
-}
+use Rattle.model.specs.Views.{SlotView, OfferView, StatusView, StageView, Edge, UnitView, TraceView, RowView, CellView, cell_view, OperandView, StationView, claims}
 use Rattle.model.specs.Requests.{in_queue, in_station, in_stage, in_unit, on_offer, op_at, Field, disassembly, destination, fault, source, write, field, Request, status_message, trace_detail, row_disassembly, stage_name, unit_name, station_label, rename_register, cell_label, operand_register, text_at}
 use Rattle.model.specs.Calls as calls
-use Rattle.model.specs.Calls.{
-  Answer,
-  refused,
-  done,
-  offered,
-  resolved,
-  invitation,
-  shown_status,
-  shown_stats,
-  shown_flag,
-  shown_number,
-  shown_stages,
-  shown_edges,
-  shown_stage,
-  shown_unit,
-  shown_trace,
-  shown_row,
-  shown_cell,
-  shown_station,
-  shown_rename,
-  shown_slot,
-  shown_text,
-  View,
-  Call,
-  show,
-  answer,
-  looks,
-}
+use Rattle.model.specs.Calls.{Answer, refused, done, offered, resolved, invitation, shown_status, shown_stats, shown_flag, shown_number, shown_stages, shown_edges, shown_stage, shown_unit, shown_trace, shown_row, shown_cell, shown_station, shown_rename, shown_slot, shown_text, View, Call, show, answer, looks}
 
 -- The number of a list: from h, by each number in turn.
 unfoldable pub hash : ℕ → List ℕ → ℕ
@@ -70,8 +26,8 @@ bit false = 0
 
 module _ {A : Type 0} where
   unfoldable pub maybe : (A → List ℕ → List ℕ) → Option A → List ℕ → List ℕ
-  maybe f none l = 0 ∷ l
-  maybe f (some a) l = 1 ∷ f a l
+  maybe f None l = 0 ∷ l
+  maybe f (Some a) l = 1 ∷ f a l
 
   unfoldable pub each : (A → List ℕ → List ℕ) → List A → List ℕ → List ℕ
   each f [] l = l
@@ -176,15 +132,15 @@ read s t l = maybe text_numbers (text_at s t) l
 
 -- The texts of a slot view: text, shown destination, two sources.
 unfoldable pub slot_texts : Option Op → List ℕ → List ℕ
-slot_texts none l = 0 ∷ l
-slot_texts (some o) l =
+slot_texts None l = 0 ∷ l
+slot_texts (Some o) l =
     1
     ∷ each (λ (f : Field). maybe text_numbers (field o.info f)) (disassembly ∷ destination ∷ source 0 ∷ source 1 ∷ []) l
 
 -- All texts of the operation on offer, and one past the end of each list of names.
 unfoldable pub offer_texts : Option Op → List ℕ → List ℕ
-offer_texts none l = 0 ∷ l
-offer_texts (some o) l =
+offer_texts None l = 0 ∷ l
+offer_texts (Some o) l =
     1
     ∷ each (λ (f : Field). maybe text_numbers (field o.info f)) (disassembly ∷ destination ∷ fault ∷ [])
     (up_from (λ (j : ℕ). maybe text_numbers (field o.info (source j))) 0 9
@@ -213,18 +169,18 @@ queued_all s i l = ask s (calls.queued i) (slot_texts (op_at s (in_queue i)) l)
 
 -- A row's cell c, read from the row's own bytes: the byte that a cell view reads (proofs/Cells).
 unfoldable pub cell_in : Row → List ℕ → ℕ → Option ℕ
-cell_in w own c = cond (ltb c w.count) (nth own ((w.oldest_at + c) % 200)) none
+cell_in w own c = cond (ltb c w.count) (slice_get own ((w.oldest_at + c) % 200)) None
 
 unfoldable pub cells_of : Row → List ℕ → List ℕ → List ℕ
-cells_of w own l = up_from (λ (c : ℕ). maybe cell_numbers (omap cell_view (cell_in w own c))) 0 w.count l
+cells_of w own l = up_from (λ (c : ℕ). maybe cell_numbers (option_map cell_view (cell_in w own c))) 0 w.count l
 
 unfoldable pub row_cells : State → List ℕ → Option Row → List ℕ → List ℕ
-row_cells s m none l = l
-row_cells s m (some w) l = cells_of w (drop (slot s.machine.history w.id) m) l
+row_cells s m None l = l
+row_cells s m (Some w) l = cells_of w (drop (slot s.machine.history w.id) m) l
 
 -- A row and all its cells, from the cell memory m.
 unfoldable pub row_all : State → List ℕ → ℕ → List ℕ → List ℕ
-row_all s m i l = ask s (calls.timeline_row i) (read s (row_disassembly i) (row_cells s m (nth s.log.rows i) l))
+row_all s m i l = ask s (calls.timeline_row i) (read s (row_disassembly i) (row_cells s m (slice_get s.log.rows i) l))
 
 unfoldable pub ask_before : State → ℕ → List ℕ → List ℕ
 ask_before s n l = ask s (calls.in_flight_before n) l

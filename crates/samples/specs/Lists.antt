@@ -1,6 +1,5 @@
 -- A list of calls with what the Rust answered and showed, and whether the model answers and shows the same.
-use Rattle.std.specs.Prelude.{ℕ, zero, suc, Bool, List, [], ◌∷◌, replicate}
-use Rattle.std.proofs.Math.Option.{Option, none}
+use Rattle.std.specs.Prelude.{ℕ, zero, suc, Bool, List, [], ◌∷◌, replicate, Option, None}
 use Rattle.laws.specs.Texts.{Text, same}
 use Rattle.capability.specs.declared.PipelineInstructionClass.{PipelineInstructionClass}
 use Rattle.model.specs.Config.{PipelineShape}
@@ -52,7 +51,7 @@ answered c p =
 
 unfoldable pub idled : ℕ → ℕ → Playing → Playing
 idled zero lent p = p
-idled (suc n) lent p = idled n lent (answered (advance none lent) (answered start p))
+idled (suc n) lent p = idled n lent (answered (advance None lent) (answered start p))
 
 unfoldable pub all_shown : State → List ℕ → List ℕ → List ℕ
 all_shown s m l = everything_shown s m (fixed_shown s (text_numbers m l))

@@ -3,7 +3,7 @@ use Prim.Native.Nat.{ℕ, ◌+◌, ◌*◌, ◌≤◌}
 use native.Mathlib.Omega.{arith}
 use mathlib.Core.Path.{◌≡◌, refl, sym, ap, subst}
 use mathlib.Core.Bool.{Bool, true, false, cond}
-use mathlib.Core.Option.{Option, none, some}
+use Rattle.std.specs.Prelude.{Option, None, Some}
 use mathlib.Core.List.{List, [], ◌∷◌, map}
 use lib.ListN.{length}
 use Rattle.laws.specs.Lists.{All, modify}
@@ -49,15 +49,15 @@ few-marked (b ∷ bs) us h =
 
 few-out : (f : Option ℕ) (us : List FunctionalUnit) → All PlacedFew us → All PlacedFew (take_out f us)
 unfolding writing unit-work
-few-out none us h = h
-few-out (some i) us h = all-modify PlacedFew i (with_busy false) (λ u x. omega arith) us h
+few-out None us h = h
+few-out (Some i) us h = all-modify PlacedFew i (with_busy false) (λ u x. omega arith) us h
 
 few-start : (s : State) → Few s → Few (start_cycle s)
 unfolding writing units op-work unit-work
 few-start s h =
     let us = map clear_hazard s.units in
     record {
-      queued = all_map QueuedFew QueuedFew (with_hazard none) (λ o x. x) s.queue h.queued;
+      queued = all_map QueuedFew QueuedFew (with_hazard None) (λ o x. x) s.queue h.queued;
       placed =
           few-out (writable_unit us).found (mark_blocked (writable_unit us).turned_away us)
           (few-marked (writable_unit us).turned_away us (all_map PlacedFew PlacedFew clear_hazard (λ u x. x) s.units h.placed));
@@ -73,8 +73,8 @@ unfolding scoreboard issuing units unit-work
 few-closed s h = go s.offer.writing
   where
     go : (w : Option ℕ) → Few (close_cycle (complete_offer w s))
-    go none = record { queued = h.queued; placed = h.placed }
-    go (some i) =
+    go None = record { queued = h.queued; placed = h.placed }
+    go (Some i) =
         record {
           queued = h.queued;
           placed =
@@ -82,7 +82,7 @@ few-closed s h = go s.offer.writing
               (all-modify PlacedFew i clear (λ u x. omega arith) s.units h.placed);
         }
 
-few-before : (s : State) → Few s → Few (before_issue none s)
+few-before : (s : State) → Few s → Few (before_issue None s)
 unfolding scoreboard issuing
 few-before s h =
     record {
@@ -95,11 +95,11 @@ few-before s h =
 few-blocked : (x : PipelineHazardKind) (d : Detail) (s : State) → Few s → Few (block_issue x d s)
 unfolding issuing op-work
 few-blocked x d s h =
-    record { queued = all-modify QueuedFew 0 (with_hazard (some x)) (λ o y. y) s.queue h.queued; placed = h.placed }
+    record { queued = all-modify QueuedFew 0 (with_hazard (Some x)) (λ o y. y) s.queue h.queued; placed = h.placed }
 
 few-placed
     : (o : Op) (rest : List Op) (r w : List ℕ) (i : ℕ) (s : State) → s.queue ≡ o ∷ rest → Few s
-    → Few (issue_to o rest r w none (some i) s)
+    → Few (issue_to o rest r w None (Some i) s)
 unfolding issuing units op-work unit-work phase-work
 few-placed o rest r w i s q h =
     let a : All QueuedFew (o ∷ rest) = subst (All QueuedFew) q h.queued in
@@ -112,9 +112,9 @@ few-to
     : (o : Op) (rest : List Op) (r w : List ℕ) (t f : Option ℕ) (s : State) → s.queue ≡ o ∷ rest → Few s
     → Few (issue_to o rest r w t f s)
 unfolding issuing
-few-to o rest r w (some x) f s q h = few-blocked WriteAfterWrite _ s h
-few-to o rest r w none none s q h = few-blocked FunctionalUnitBusy _ s h
-few-to o rest r w none (some i) s q h = few-placed o rest r w i s q h
+few-to o rest r w (Some x) f s q h = few-blocked WriteAfterWrite _ s h
+few-to o rest r w None None s q h = few-blocked FunctionalUnitBusy _ s h
+few-to o rest r w None (Some i) s q h = few-placed o rest r w i s q h
 
 few-choose : (b y : Bool) (o : Op) (rest : List Op) (s : State) → s.queue ≡ o ∷ rest → Few s → Few (issue_choose b y o rest s)
 unfolding issuing
@@ -142,8 +142,8 @@ pub few-cycled : (s : State) → Invariant s → s.front.in_cycle ≡ false → 
 few-cycled s i out running h =
     let t = settled (start_cycle s).offer.writing (start_cycle s) in
     subst Few (sym (cycled-is s i out running))
-    (few-after (issue (before_issue none (closed t)))
-    (few-issue (before_issue none (closed t))
+    (few-after (issue (before_issue None (closed t)))
+    (few-issue (before_issue None (closed t))
     (few-before (closed t) (few-closed t (few-settled (start_cycle s).offer.writing (start_cycle s) (few-start s h))))))
 
 -- ── A fetch ─────────────────────────────────────────────────────────────────

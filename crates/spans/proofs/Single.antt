@@ -3,13 +3,13 @@ use Prim.Native.Nat.{ℕ, suc, ◌+◌, ◌≤◌, ◌<◌}
 use native.Mathlib.Omega.{arith}
 use mathlib.Core.Path.{◌≡◌, refl, sym, ◌∙◌, ap, ap₂}
 use mathlib.Core.Bool.{Bool, true, false, cond}
-use mathlib.Core.Option.{some}
+use Rattle.std.specs.Prelude.{Some, slice_get}
 use mathlib.Core.List.{List, [], ◌∷◌, map}
 use mathlib.Core.Logic.{◌⊎◌, inl, inr}
 use lib.Dec.{eqb, ltb}
 use lib.ListN.{length}
 use borrow.Author.Tests.{eqb-true, lt-ltb, ltb-true, ne_eqb}
-use Rattle.laws.specs.Lists.{All, keep, nth}
+use Rattle.laws.specs.Lists.{All, keep}
 use Rattle.laws.proofs.Tests.{lt-or-ge}
 use Rattle.capability.specs.declared.Phase.{Phase}
 use Rattle.capability.specs.declared.Phase.TheVariants.{Execute, Read, Wait, Write}
@@ -89,7 +89,7 @@ module _ (k : ℕ) where
       go false c e f l = absurd (omega (arith, l))
 
   module _ (s : State) (h : Invariant s) where
-    unit-number : (i : ℕ) (u : FunctionalUnit) → nth s.units i ≡ some u → 0 < unit-hit u → u.op.core.seq ≡ k
+    unit-number : (i : ℕ) (u : FunctionalUnit) → slice_get s.units i ≡ Some u → 0 < unit-hit u → u.op.core.seq ≡ k
     unit-number i u e l =
         let f = all-at (UnitFits (length s.machine.specs) (length s.names)) s.units i u e h.units_fit in
         sym f.operation_fits.row_is_number ∙ sym (unit-told u l).1

@@ -3,29 +3,29 @@ use Prim.Native.Nat.{ℕ, zero, suc, ◌+◌, ◌*◌, ◌≤◌, ◌<◌}
 use native.Mathlib.Omega.{arith}
 use mathlib.Core.Path.{◌≡◌, refl, ap}
 use mathlib.Core.Bool.{Bool, true, false, cond}
-use mathlib.Core.Option.{some}
+use Rattle.std.specs.Prelude.{Some, slice_get}
 use mathlib.Core.List.{List, [], ◌∷◌, ◌++◌, map}
 use mathlib.Core.Logic.{◌⊎◌, inl, inr}
 use lib.ListN.{length}
-use Rattle.laws.specs.Lists.{All, keep, lists, nth}
+use Rattle.laws.specs.Lists.{All, keep, lists}
 use Rattle.laws.proofs.Tests.{lt-or-ge}
 use Rattle.ending.proofs.Totals.{total, total-zero}
 
 module _ {A : Type 0} (w : A → ℕ) where
-  pub total-some : (xs : List A) → 0 < total w xs → (i : ℕ) × (a : A) × (nth xs i ≡ some a) × (0 < w a)
+  pub total-some : (xs : List A) → 0 < total w xs → (i : ℕ) × (a : A) × (slice_get xs i ≡ Some a) × (0 < w a)
   unfolding total lists
   total-some [] l = absurd (omega (arith, l))
   total-some (x ∷ xs) l = go (lt-or-ge 0 (w x)) (total-some xs)
     where
       go
-          : (0 < w x) ⊎ (w x ≤ 0) → (0 < total w xs → (i : ℕ) × (a : A) × (nth xs i ≡ some a) × (0 < w a))
-          → (i : ℕ) × (a : A) × (nth (x ∷ xs) i ≡ some a) × (0 < w a)
+          : (0 < w x) ⊎ (w x ≤ 0) → (0 < total w xs → (i : ℕ) × (a : A) × (slice_get xs i ≡ Some a) × (0 < w a))
+          → (i : ℕ) × (a : A) × (slice_get (x ∷ xs) i ≡ Some a) × (0 < w a)
       go (inl y) ih = (0, x, refl, y)
       go (inr y) ih = let z = ih (omega (arith, l, y)) in (suc z.0, z.1, z.2, z.3)
 
   pub total-once
       : ((x : A) → w x ≤ 1) → (xs : List A)
-      → ((i j : ℕ) (a b : A) → nth xs i ≡ some a → nth xs j ≡ some b → 0 < w a → 0 < w b → i ≡ j) → total w xs ≤ 1
+      → ((i j : ℕ) (a b : A) → slice_get xs i ≡ Some a → slice_get xs j ≡ Some b → 0 < w a → 0 < w b → i ≡ j) → total w xs ≤ 1
   unfolding total lists
   total-once f [] h = omega arith
   total-once f (x ∷ xs) h = go (lt-or-ge 0 (w x)) (total-once f xs (λ i j a b p q y z. ap pred (h (suc i) (suc j) a b p q y z)))
@@ -38,7 +38,7 @@ module _ {A : Type 0} (w : A → ℕ) where
       go (inr y) ih = omega (arith, y, ih)
       go (inl y) ih = omega (arith, f x, total-zero w xs (λ i a e. none_more i a e (lt-or-ge 0 (w a))))
         where
-          none_more : (i : ℕ) (a : A) → nth xs i ≡ some a → (0 < w a) ⊎ (w a ≤ 0) → w a ≡ 0
+          none_more : (i : ℕ) (a : A) → slice_get xs i ≡ Some a → (0 < w a) ⊎ (w a ≤ 0) → w a ≡ 0
           none_more i a e (inl z) = let n = h 0 (suc i) x a refl e y z in absurd (omega (arith, n))
           none_more i a e (inr z) = omega (arith, z)
 

@@ -1,6 +1,5 @@
 -- List 1 of the sample, from seed 1519. Made by the harness: see docs/SAMPLES.md.
-use Rattle.std.specs.Prelude.{ℕ, true, false, List, [], ◌∷◌}
-use Rattle.std.proofs.Math.Option.{none, some}
+use Rattle.std.specs.Prelude.{ℕ, true, false, List, [], ◌∷◌, None, Some}
 use Rattle.laws.specs.Texts.{bytes}
 use Rattle.capability.specs.declared.PipelineInstructionClass.TheVariants.{Alu, Multiply, Load, Store, FloatingPoint}
 use Rattle.model.specs.Config.{timing, unit_spec, PipelineShape, pipeline_shape}
@@ -30,65 +29,65 @@ abbrev shape : PipelineShape
 shape =
     pipeline_shape (role.Execute ∷ role.Fetch ∷ role.Memory ∷ role.Issue ∷ role.Writeback ∷ role.Memory ∷ role.Decode ∷
     role.Writeback ∷ role.Other ∷ role.Memory ∷ role.Memory ∷ role.Decode ∷ role.Execute ∷ role.Fetch ∷ role.Writeback ∷ role.Issue ∷
-    []) none (timing 1 2 5 2 3 0 5) (unit_spec (bytes "A") [] Store 0 ∷ []) 1
+    []) None (timing 1 2 5 2 3 0 5) (unit_spec (bytes "A") [] Store 0 ∷ []) 1
 
 abbrev steps : List Step
 steps =
     shown (overlap true)
-    ∷ shown start ∷ shown (advance none 200) ∷ shown (retry
+    ∷ shown start ∷ shown (advance None 200) ∷ shown (retry
     (bytes "zzzzzzzzzzzzzzzzzzzzzzzzzzzzzzzzzzzzzzzzzzzzzzzzzzzzzzzzzzzzzzzzz"))
-    ∷ shown (fetch (op 0 0 Load false false (bytes "   ") (some
-    (bytes "ffffffffffffffffffffffffffffffffffffffffffffffffffffffffffffffff")) (some (bytes "x5")) (bytes "x5" ∷ bytes "x0" ∷
+    ∷ shown (fetch (op 0 0 Load false false (bytes "   ") (Some
+    (bytes "ffffffffffffffffffffffffffffffffffffffffffffffffffffffffffffffff")) (Some (bytes "x5")) (bytes "x5" ∷ bytes "x0" ∷
     bytes "x2" ∷ bytes "x7" ∷ bytes "x5" ∷ bytes "rflags" ∷ [] ∷ bytes "x2" ∷ bytes "x6" ∷ []) (bytes "x5" ∷ []) 447) 0)
-    ∷ shown (fetch (op 0 4 Store false false (bytes "sw x4") none (some (bytes "sixteen-bytes-ok")) (bytes "x6" ∷ bytes "x4" ∷
+    ∷ shown (fetch (op 0 4 Store false false (bytes "sw x4") None (Some (bytes "sixteen-bytes-ok")) (bytes "x6" ∷ bytes "x4" ∷
     bytes "x0" ∷ []) (bytes "x4" ∷ []) 697) 46)
-    ∷ shown (fetch (op 0 9 FloatingPoint false false (bytes "ecall x1") none (some (bytes "shown")) (bytes "x6" ∷ bytes "x6" ∷ [])
+    ∷ shown (fetch (op 0 9 FloatingPoint false false (bytes "ecall x1") None (Some (bytes "shown")) (bytes "x6" ∷ bytes "x6" ∷ [])
     (bytes "x3" ∷ []) 504) 200)
     ∷ shown start ∷ shown (text (cell_label 3) 2)
     ∷ shown (fetch (op 9 15 FloatingPoint false false (bytes "zzzzzzzzzzzzzzzzzzzzzzzzzzzzzzzzzzzzzzzzzzzzzzzzzzzzzzzzzzzzzzzzz")
-    (some []) (some (bytes "sixteen-bytes-ok")) [] [] 215) 200) ∷ shown (advance none 200)
-    ∷ shown (fetch (op 36 5 Alu false true (bytes "nop x5") none none (bytes "x1" ∷ bytes "x7" ∷ bytes "x7" ∷ []) [] 579) 200)
-    ∷ shown start ∷ shown (text (trace_detail 0) 0) ∷ shown (cell 2 0 200) ∷ shown (advance none 200)
-    ∷ shown start ∷ shown (advance none 200) ∷ shown retire ∷ shown (text (slot_text (in_queue 0) (source 2)) 2)
-    ∷ shown start ∷ shown (advance none 200) ∷ shown (capacity 2 2)
+    (Some []) (Some (bytes "sixteen-bytes-ok")) [] [] 215) 200) ∷ shown (advance None 200)
+    ∷ shown (fetch (op 36 5 Alu false true (bytes "nop x5") None None (bytes "x1" ∷ bytes "x7" ∷ bytes "x7" ∷ []) [] 579) 200)
+    ∷ shown start ∷ shown (text (trace_detail 0) 0) ∷ shown (cell 2 0 200) ∷ shown (advance None 200)
+    ∷ shown start ∷ shown (advance None 200) ∷ shown retire ∷ shown (text (slot_text (in_queue 0) (source 2)) 2)
+    ∷ shown start ∷ shown (advance None 200) ∷ shown (capacity 2 2)
     ∷ shown start
-    ∷ shown (fetch (op 41 11 Alu false false (bytes "div                                                             ") none (some
+    ∷ shown (fetch (op 41 11 Alu false false (bytes "div                                                             ") None (Some
     (bytes "x1")) [] (bytes "x6" ∷ bytes "sixteen-bytes-ok" ∷ bytes "x2" ∷ bytes "x2" ∷ bytes "x7" ∷ []) 248) 200) ∷ shown (view
-    stats) ∷ shown (capacity 2 3) ∷ shown (advance none 200)
-    ∷ shown start ∷ shown (advance none 200) ∷ shown (text (rename_register 0) 200)
+    stats) ∷ shown (capacity 2 3) ∷ shown (advance None 200)
+    ∷ shown start ∷ shown (advance None 200) ∷ shown (text (rename_register 0) 200)
     ∷ shown start
-    ∷ shown start ∷ shown (advance (some 0) 200)
-    ∷ shown (fetch (op 0 0 Alu false false (bytes "mul x6") none (some (bytes "x5")) (bytes "x1" ∷ []) (bytes "x5" ∷ []) 176) 200)
-    ∷ shown start ∷ shown (advance none 200) ∷ shown (cell 0 18446744073709551615 200) ∷ shown (resolve 228)
+    ∷ shown start ∷ shown (advance (Some 0) 200)
+    ∷ shown (fetch (op 0 0 Alu false false (bytes "mul x6") None (Some (bytes "x5")) (bytes "x1" ∷ []) (bytes "x5" ∷ []) 176) 200)
+    ∷ shown start ∷ shown (advance None 200) ∷ shown (cell 0 18446744073709551615 200) ∷ shown (resolve 228)
     ∷ shown start ∷ shown (view stage_order) ∷ shown (capacity 0 65) ∷ shown (view stats)
-    ∷ shown (fetch (op 1 18446744073709551614 Alu false false (bytes "mul x7") (some
-    (bytes "ffffffffffffffffffffffffffffffffffffffffffffffffffffffffffffffff")) (some (bytes "shown")) (bytes "x4" ∷
+    ∷ shown (fetch (op 1 18446744073709551614 Alu false false (bytes "mul x7") (Some
+    (bytes "ffffffffffffffffffffffffffffffffffffffffffffffffffffffffffffffff")) (Some (bytes "shown")) (bytes "x4" ∷
     bytes "zzzzzzzzzzzzzzzzz" ∷ bytes "x1" ∷ bytes "x2" ∷ bytes "x3" ∷ bytes "x5" ∷ bytes "x6" ∷ bytes "x1" ∷ bytes "x6" ∷ []) []
-    367) 200) ∷ shown (advance none 200)
+    367) 200) ∷ shown (advance None 200)
     ∷ shown start ∷ shown (resolve 9) ∷ shown retire ∷ shown halt
-    ∷ shown (fetch (op 1 5 Alu false false (bytes "   ") none (some (bytes "x5")) (bytes "x2" ∷ []) (bytes "x2" ∷ bytes "x2" ∷
-    bytes "x0" ∷ bytes "x1" ∷ bytes "x1" ∷ []) 961) 200) ∷ shown (advance none 200) ∷ shown (text (stage_name 2) 2) ∷ shown (reset
+    ∷ shown (fetch (op 1 5 Alu false false (bytes "   ") None (Some (bytes "x5")) (bytes "x2" ∷ []) (bytes "x2" ∷ bytes "x2" ∷
+    bytes "x0" ∷ bytes "x1" ∷ bytes "x1" ∷ []) 961) 200) ∷ shown (advance None 200) ∷ shown (text (stage_name 2) 2) ∷ shown (reset
     120 200)
-    ∷ shown start ∷ shown (capacity 2 65) ∷ shown (retry (bytes "waiting")) ∷ shown (advance none 200)
-    ∷ shown (fetch (op 120 8 Alu false false (bytes "nop x8") none (some (bytes "x5")) [] (bytes "x5" ∷ []) 425) 200) ∷ shown
+    ∷ shown start ∷ shown (capacity 2 65) ∷ shown (retry (bytes "waiting")) ∷ shown (advance None 200)
+    ∷ shown (fetch (op 120 8 Alu false false (bytes "nop x8") None (Some (bytes "x5")) [] (bytes "x5" ∷ []) 425) 200) ∷ shown
     (capacity 0 3)
-    ∷ shown start ∷ shown (overlap true) ∷ shown (advance none 200)
-    ∷ shown (fetch (op 128 9 Alu false false (bytes "  lw  x1 ") (some
-    (bytes "ffffffffffffffffffffffffffffffffffffffffffffffffffffffffffffffff")) (some (bytes "x5")) (bytes "x3" ∷ []) (bytes "x5" ∷
+    ∷ shown start ∷ shown (overlap true) ∷ shown (advance None 200)
+    ∷ shown (fetch (op 128 9 Alu false false (bytes "  lw  x1 ") (Some
+    (bytes "ffffffffffffffffffffffffffffffffffffffffffffffffffffffffffffffff")) (Some (bytes "x5")) (bytes "x3" ∷ []) (bytes "x5" ∷
     []) 579) 200)
-    ∷ shown start ∷ shown (advance none 200) ∷ shown (view fetch_pc)
+    ∷ shown start ∷ shown (advance None 200) ∷ shown (view fetch_pc)
     ∷ shown start ∷ shown (text (operand_register 0 1) 0) ∷ shown (retry (bytes "waiting")) ∷ shown (retry [])
-    ∷ shown (fetch (op 137 11 Multiply false true (bytes "jal x0") none none (bytes "x7" ∷ bytes "x3" ∷ bytes "x7" ∷ bytes "x2" ∷
+    ∷ shown (fetch (op 137 11 Multiply false true (bytes "jal x0") None None (bytes "x7" ∷ bytes "x3" ∷ bytes "x7" ∷ bytes "x2" ∷
     bytes "x6" ∷ bytes "x2" ∷ bytes "x1" ∷ bytes "x7" ∷ bytes "x1" ∷ []) (bytes "x2" ∷ []) 836) 200)
-    ∷ shown start ∷ shown (advance none 200)
-    ∷ shown start ∷ shown (advance none 200) ∷ shown (retry
+    ∷ shown start ∷ shown (advance None 200)
+    ∷ shown start ∷ shown (advance None 200) ∷ shown (retry
     (bytes "zzzzzzzzzzzzzzzzzzzzzzzzzzzzzzzzzzzzzzzzzzzzzzzzzzzzzzzzzzzzzzzzz"))
-    ∷ shown start ∷ shown (advance none 200)
+    ∷ shown start ∷ shown (advance None 200)
     ∷ shown start ∷ shown (cell 0 5 200) ∷ shown (overlap false)
-    ∷ shown start ∷ shown (overlap true) ∷ shown retire ∷ shown (retry (128 ∷ [])) ∷ shown (advance none 200)
-    ∷ shown (fetch (op 137 8 Alu false false (34 ∷ 113 ∷ 34 ∷ 32 ∷ 120 ∷ 51 ∷ []) none none (bytes "x7" ∷ bytes "x2" ∷ bytes "x1" ∷
+    ∷ shown start ∷ shown (overlap true) ∷ shown retire ∷ shown (retry (128 ∷ [])) ∷ shown (advance None 200)
+    ∷ shown (fetch (op 137 8 Alu false false (34 ∷ 113 ∷ 34 ∷ 32 ∷ 120 ∷ 51 ∷ []) None None (bytes "x7" ∷ bytes "x2" ∷ bytes "x1" ∷
     []) [] 446) 200)
-    ∷ shown start ∷ shown (advance none 200)
+    ∷ shown start ∷ shown (advance None 200)
     ∷ shown start
     ∷ rest ∷ []
 

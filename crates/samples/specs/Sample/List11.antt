@@ -1,6 +1,5 @@
 -- List 11 of the sample, from seed 692. Made by the harness: see docs/SAMPLES.md.
-use Rattle.std.specs.Prelude.{ℕ, List, [], ◌∷◌}
-use Rattle.std.proofs.Math.Option.{none}
+use Rattle.std.specs.Prelude.{ℕ, List, [], ◌∷◌, None}
 use Rattle.laws.specs.Texts.{bytes}
 use Rattle.capability.specs.declared.PipelineInstructionClass.TheVariants.{Divide, Branch, Jump, System, FloatingPoint, Unknown}
 use Rattle.model.specs.Config.{timing, unit_spec, PipelineShape, pipeline_shape}
@@ -9,7 +8,7 @@ use Rattle.capability.specs.declared.PipelineStageRole.TheVariants as role
 
 abbrev shape : PipelineShape
 shape =
-    pipeline_shape (role.Commit ∷ role.Decode ∷ role.Commit ∷ role.Other ∷ role.Issue ∷ []) none (timing 18446744073709551615 0 3 0 0
+    pipeline_shape (role.Commit ∷ role.Decode ∷ role.Commit ∷ role.Other ∷ role.Issue ∷ []) None (timing 18446744073709551615 0 3 0 0
     1 0) (unit_spec (126 ∷ 34 ∷ 92 ∷ 120 ∷ []) [] Jump 0 ∷ unit_spec (bytes "DIV") (Branch ∷ System ∷ Divide ∷ Unknown ∷ []) Unknown
     0 ∷ unit_spec (bytes "SYS") [] FloatingPoint 0 ∷ unit_spec (bytes "FPU") (System ∷ Unknown ∷ []) System 61 ∷ []) 0
 

@@ -1,6 +1,5 @@
 -- List 12 of the sample, from seed 824. Made by the harness: see docs/SAMPLES.md.
-use Rattle.std.specs.Prelude.{ℕ, true, false, List, [], ◌∷◌}
-use Rattle.std.proofs.Math.Option.{none, some}
+use Rattle.std.specs.Prelude.{ℕ, true, false, List, [], ◌∷◌, None, Some}
 use Rattle.laws.specs.Texts.{bytes}
 use Rattle.capability.specs.declared.PipelineInstructionClass.TheVariants.{Alu, Divide, Load, Store, System, FloatingPoint, Unknown}
 use Rattle.model.specs.Config.{timing, unit_spec, PipelineShape, pipeline_shape}
@@ -11,76 +10,76 @@ use Rattle.capability.specs.declared.PipelineStageRole.TheVariants as role
 
 abbrev shape : PipelineShape
 shape =
-    pipeline_shape (role.Issue ∷ []) none (timing 2 0 1 2 3 0 0) (unit_spec (bytes "12345678") [] System 4 ∷ []) 2
+    pipeline_shape (role.Issue ∷ []) None (timing 2 0 1 2 3 0 0) (unit_spec (bytes "12345678") [] System 4 ∷ []) 2
 
 abbrev steps : List Step
 steps =
     shown (overlap true)
-    ∷ shown start ∷ shown (advance (some 18446744073709551614) 400)
-    ∷ shown (fetch (op 18446744073709551614 0 Store false false (bytes "jal x6") none none (bytes "x2" ∷ bytes "x6" ∷ bytes "x1" ∷
+    ∷ shown start ∷ shown (advance (Some 18446744073709551614) 400)
+    ∷ shown (fetch (op 18446744073709551614 0 Store false false (bytes "jal x6") None None (bytes "x2" ∷ bytes "x6" ∷ bytes "x1" ∷
     []) [] 385) 400)
-    ∷ shown start ∷ shown (advance none 400)
-    ∷ shown (fetch (op 18446744073709551615 4 FloatingPoint false false (32 ∷ 32 ∷ 34 ∷ 113 ∷ 34 ∷ 32 ∷ 32 ∷ 120 ∷ 49 ∷ 32 ∷ []) none
-    (some (bytes "sixteen-bytes-ok")) [] (bytes "x1" ∷ []) 53) 400)
+    ∷ shown start ∷ shown (advance None 400)
+    ∷ shown (fetch (op 18446744073709551615 4 FloatingPoint false false (32 ∷ 32 ∷ 34 ∷ 113 ∷ 34 ∷ 32 ∷ 32 ∷ 120 ∷ 49 ∷ 32 ∷ []) None
+    (Some (bytes "sixteen-bytes-ok")) [] (bytes "x1" ∷ []) 53) 400)
     ∷ shown start
-    ∷ shown (fetch (op 3 5 Load false false (bytes "div x3") (some (97 ∷ 98 ∷ 127 ∷ [])) none (bytes "x1" ∷ bytes "x5" ∷ bytes "x7" ∷
+    ∷ shown (fetch (op 3 5 Load false false (bytes "div x3") (Some (97 ∷ 98 ∷ 127 ∷ [])) None (bytes "x1" ∷ bytes "x5" ∷ bytes "x7" ∷
     bytes "rflags" ∷ bytes "x0" ∷ bytes "x6" ∷ bytes "x3" ∷ bytes "x7" ∷ bytes "x4" ∷ []) (bytes "x3" ∷ []) 687) 0) ∷ shown (advance
-    (some 15638719518231225374) 400)
-    ∷ shown start ∷ shown (advance none 400)
-    ∷ shown (fetch (op 15638719518231225374 15 Divide false false (bytes "   ") none (some (bytes "sixteen-bytes-ok")) [] [] 957) 400)
-    ∷ shown start ∷ shown (advance none 400)
-    ∷ shown (fetch (op 15638719518231225389 2 Divide false false (bytes "add x9") none none (bytes "x3" ∷ bytes "x3" ∷ bytes "x0" ∷
+    (Some 15638719518231225374) 400)
+    ∷ shown start ∷ shown (advance None 400)
+    ∷ shown (fetch (op 15638719518231225374 15 Divide false false (bytes "   ") None (Some (bytes "sixteen-bytes-ok")) [] [] 957) 400)
+    ∷ shown start ∷ shown (advance None 400)
+    ∷ shown (fetch (op 15638719518231225389 2 Divide false false (bytes "add x9") None None (bytes "x3" ∷ bytes "x3" ∷ bytes "x0" ∷
     []) [] 325) 400)
-    ∷ shown start ∷ shown (advance none 400)
-    ∷ shown (fetch (op 15638719518231225391 11 Unknown false false (34 ∷ 113 ∷ 34 ∷ 32 ∷ 120 ∷ 56 ∷ []) none (some
+    ∷ shown start ∷ shown (advance None 400)
+    ∷ shown (fetch (op 15638719518231225391 11 Unknown false false (34 ∷ 113 ∷ 34 ∷ 32 ∷ 120 ∷ 56 ∷ []) None (Some
     (bytes "sixteen-bytes-ok")) (bytes "x5" ∷ bytes "x3" ∷ []) (bytes "x2" ∷ bytes "x7" ∷ bytes "x0" ∷ []) 412) 400)
-    ∷ shown start ∷ shown (advance none 400)
-    ∷ shown (fetch (op 15638719518231225402 2 Load false false (bytes "sw x6") none none [] [] 18446744073709551614) 400)
-    ∷ shown start ∷ shown (advance none 400)
-    ∷ shown start ∷ shown (retry (31 ∷ [])) ∷ shown retire ∷ shown (advance none 400)
-    ∷ shown (fetch (op 15638719518231225404 3 Alu false false (32 ∷ 126 ∷ 92 ∷ 34 ∷ []) none (some (bytes "x3")) (bytes "x2" ∷
+    ∷ shown start ∷ shown (advance None 400)
+    ∷ shown (fetch (op 15638719518231225402 2 Load false false (bytes "sw x6") None None [] [] 18446744073709551614) 400)
+    ∷ shown start ∷ shown (advance None 400)
+    ∷ shown start ∷ shown (retry (31 ∷ [])) ∷ shown retire ∷ shown (advance None 400)
+    ∷ shown (fetch (op 15638719518231225404 3 Alu false false (32 ∷ 126 ∷ 92 ∷ 34 ∷ []) None (Some (bytes "x3")) (bytes "x2" ∷
     bytes "x5" ∷ []) (bytes "x3" ∷ []) 279) 400)
-    ∷ shown start ∷ shown retire ∷ shown (advance none 400)
-    ∷ shown start ∷ shown retire ∷ shown (advance none 400)
-    ∷ shown (fetch (op 15638719518231225407 6 Store false false (bytes "ecall x7") none none (bytes "a.0" ∷ bytes "rflags" ∷
+    ∷ shown start ∷ shown retire ∷ shown (advance None 400)
+    ∷ shown start ∷ shown retire ∷ shown (advance None 400)
+    ∷ shown (fetch (op 15638719518231225407 6 Store false false (bytes "ecall x7") None None (bytes "a.0" ∷ bytes "rflags" ∷
     bytes "x2" ∷ []) [] 88) 400)
-    ∷ shown start ∷ shown retire ∷ shown (advance none 400) ∷ shown halt ∷ shown (redirect 184)
-    ∷ shown start ∷ shown (advance none 400)
-    ∷ shown (fetch (op 184 14 Unknown false true (bytes "lw x2") none none (bytes "x6" ∷ bytes "x1" ∷ []) (bytes "x1" ∷ []) 747) 400)
-    ∷ shown start ∷ shown (advance none 400)
-    ∷ shown start ∷ shown (advance none 400)
-    ∷ shown start ∷ shown (advance none 400)
-    ∷ shown (fetch (op 198 5 Alu false true (32 ∷ 126 ∷ 92 ∷ 34 ∷ []) none (some (bytes "x3")) (bytes "x4" ∷ bytes "x4" ∷ bytes "x5"
+    ∷ shown start ∷ shown retire ∷ shown (advance None 400) ∷ shown halt ∷ shown (redirect 184)
+    ∷ shown start ∷ shown (advance None 400)
+    ∷ shown (fetch (op 184 14 Unknown false true (bytes "lw x2") None None (bytes "x6" ∷ bytes "x1" ∷ []) (bytes "x1" ∷ []) 747) 400)
+    ∷ shown start ∷ shown (advance None 400)
+    ∷ shown start ∷ shown (advance None 400)
+    ∷ shown start ∷ shown (advance None 400)
+    ∷ shown (fetch (op 198 5 Alu false true (32 ∷ 126 ∷ 92 ∷ 34 ∷ []) None (Some (bytes "x3")) (bytes "x4" ∷ bytes "x4" ∷ bytes "x5"
     ∷ []) (bytes "x3" ∷ []) 13) 400)
-    ∷ shown start ∷ shown (advance none 352) ∷ shown (advance none 400)
-    ∷ shown (fetch (op 203 15 Alu false false (34 ∷ 113 ∷ 34 ∷ 32 ∷ 120 ∷ 55 ∷ []) none (some (bytes "sixteen-bytes-ok")) (bytes "x6"
+    ∷ shown start ∷ shown (advance None 352) ∷ shown (advance None 400)
+    ∷ shown (fetch (op 203 15 Alu false false (34 ∷ 113 ∷ 34 ∷ 32 ∷ 120 ∷ 55 ∷ []) None (Some (bytes "sixteen-bytes-ok")) (bytes "x6"
     ∷ bytes "x5" ∷ bytes "x6" ∷ []) (bytes "x2" ∷ []) 968) 401)
-    ∷ shown start ∷ shown retire ∷ shown (advance (some 12) 400)
-    ∷ shown (fetch (op 12 1 Store false false (bytes "sub x8") none (some (bytes "shown")) (bytes "x7" ∷ []) (bytes "x3" ∷ []) 68)
+    ∷ shown start ∷ shown retire ∷ shown (advance (Some 12) 400)
+    ∷ shown (fetch (op 12 1 Store false false (bytes "sub x8") None (Some (bytes "shown")) (bytes "x7" ∷ []) (bytes "x3" ∷ []) 68)
     400)
-    ∷ shown start ∷ shown (advance none 400) ∷ shown (capacity 0 3)
-    ∷ shown start ∷ shown (advance none 400)
-    ∷ shown start ∷ shown (advance none 400)
-    ∷ shown start ∷ shown (advance none 400)
-    ∷ shown start ∷ shown retire ∷ shown (advance none 400)
-    ∷ shown (fetch (op 1 3 Alu false true (bytes "add x6") none none (bytes "x1" ∷ bytes "x4" ∷ bytes "x2" ∷ bytes "x1" ∷ bytes "x1"
+    ∷ shown start ∷ shown (advance None 400) ∷ shown (capacity 0 3)
+    ∷ shown start ∷ shown (advance None 400)
+    ∷ shown start ∷ shown (advance None 400)
+    ∷ shown start ∷ shown (advance None 400)
+    ∷ shown start ∷ shown retire ∷ shown (advance None 400)
+    ∷ shown (fetch (op 1 3 Alu false true (bytes "add x6") None None (bytes "x1" ∷ bytes "x4" ∷ bytes "x2" ∷ bytes "x1" ∷ bytes "x1"
     ∷ bytes "sixteen-bytes-ok" ∷ bytes "x0" ∷ bytes "x7" ∷ bytes "x6" ∷ []) (bytes "x5" ∷ bytes "x4" ∷ bytes "x2" ∷ bytes "x3" ∷
     bytes "zzzzzzzzzzzzzzzzz" ∷ bytes "x1" ∷ []) 488) 400)
-    ∷ shown (fetch (op 13 10 Alu false false (bytes "xor x9") none (some (bytes "x1")) (bytes "rflags" ∷ bytes "x3" ∷ bytes "x2" ∷
+    ∷ shown (fetch (op 13 10 Alu false false (bytes "xor x9") None (Some (bytes "x1")) (bytes "rflags" ∷ bytes "x3" ∷ bytes "x2" ∷
     bytes "rflags" ∷ []) (bytes "x1" ∷ bytes "x1" ∷ bytes "x2" ∷ []) 18446744073709551615) 400)
-    ∷ shown start ∷ shown (advance none 400)
-    ∷ shown (fetch (op 23 18446744073709551615 System false false (bytes "sw x9") none none [] [] 429) 400)
-    ∷ shown start ∷ shown (advance none 400)
-    ∷ shown (fetch (op 22 14 System false false (bytes "ecall x6") none (some (bytes "shown")) [] (bytes "x0" ∷ []) 720) 400)
-    ∷ shown start ∷ shown (advance none 400)
-    ∷ shown start ∷ shown (advance none 400)
-    ∷ shown start ∷ shown (advance none 400) ∷ shown (text (slot_text (in_unit 2) (source 3)) 0)
-    ∷ shown start ∷ shown (advance none 400)
-    ∷ shown start ∷ shown retire ∷ shown (advance none 400)
-    ∷ shown start ∷ shown (advance none 400)
-    ∷ shown start ∷ shown (cell 1 8 400) ∷ shown (advance none 400)
-    ∷ shown start ∷ shown (advance none 400)
-    ∷ shown start ∷ shown (advance none 400)
+    ∷ shown start ∷ shown (advance None 400)
+    ∷ shown (fetch (op 23 18446744073709551615 System false false (bytes "sw x9") None None [] [] 429) 400)
+    ∷ shown start ∷ shown (advance None 400)
+    ∷ shown (fetch (op 22 14 System false false (bytes "ecall x6") None (Some (bytes "shown")) [] (bytes "x0" ∷ []) 720) 400)
+    ∷ shown start ∷ shown (advance None 400)
+    ∷ shown start ∷ shown (advance None 400)
+    ∷ shown start ∷ shown (advance None 400) ∷ shown (text (slot_text (in_unit 2) (source 3)) 0)
+    ∷ shown start ∷ shown (advance None 400)
+    ∷ shown start ∷ shown retire ∷ shown (advance None 400)
+    ∷ shown start ∷ shown (advance None 400)
+    ∷ shown start ∷ shown (cell 1 8 400) ∷ shown (advance None 400)
+    ∷ shown start ∷ shown (advance None 400)
+    ∷ shown start ∷ shown (advance None 400)
     ∷ shown start ∷ shown retire
     ∷ rest ∷ []
 

@@ -1,6 +1,5 @@
 -- List 14 of the sample, from seed 2138. Made by the harness: see docs/SAMPLES.md.
-use Rattle.std.specs.Prelude.{ℕ, true, false, List, [], ◌∷◌}
-use Rattle.std.proofs.Math.Option.{none, some}
+use Rattle.std.specs.Prelude.{ℕ, true, false, List, [], ◌∷◌, None, Some}
 use Rattle.laws.specs.Texts.{bytes}
 use Rattle.capability.specs.declared.PipelineInstructionClass.TheVariants.{Store, Branch}
 use Rattle.model.specs.Config.{timing, PipelineShape, pipeline_shape}
@@ -10,27 +9,27 @@ use Rattle.capability.specs.declared.PipelineStageRole.TheVariants as role
 
 abbrev shape : PipelineShape
 shape =
-    pipeline_shape (role.Writeback ∷ role.Issue ∷ role.Execute ∷ role.Issue ∷ role.Decode ∷ role.Commit ∷ []) none (timing 1 120 120
+    pipeline_shape (role.Writeback ∷ role.Issue ∷ role.Execute ∷ role.Issue ∷ role.Decode ∷ role.Commit ∷ []) None (timing 1 120 120
     190 254 1 253) [] 1
 
 abbrev steps : List Step
 steps =
-    shown start ∷ shown (advance none 200)
-    ∷ shown (fetch (op 0 9223372036854775808 Store false false [] none (some (bytes "x2")) [] (bytes "x2" ∷ []) 18446744073709551615)
+    shown start ∷ shown (advance None 200)
+    ∷ shown (fetch (op 0 9223372036854775808 Store false false [] None (Some (bytes "x2")) [] (bytes "x2" ∷ []) 18446744073709551615)
     200)
-    ∷ shown start ∷ shown (advance none 200)
-    ∷ shown start ∷ shown (advance none 200)
+    ∷ shown start ∷ shown (advance None 200)
+    ∷ shown start ∷ shown (advance None 200)
     ∷ idle 207 200
-    ∷ shown start ∷ shown (advance (some 252) 200)
-    ∷ shown start ∷ shown (advance none 200)
-    ∷ shown start ∷ shown (advance none 200) ∷ shown (view entry_stages)
-    ∷ shown start ∷ shown (advance none 200) ∷ shown (advance none 0)
-    ∷ shown start ∷ shown (advance none 200)
-    ∷ idle 45 200 ∷ shown retire ∷ shown (advance (some 208) 200)
-    ∷ shown (fetch (op 208 7 Branch true false (34 ∷ 113 ∷ 34 ∷ 32 ∷ 120 ∷ 55 ∷ []) none (some (bytes "x2")) (bytes "x3" ∷ bytes "x2"
+    ∷ shown start ∷ shown (advance (Some 252) 200)
+    ∷ shown start ∷ shown (advance None 200)
+    ∷ shown start ∷ shown (advance None 200) ∷ shown (view entry_stages)
+    ∷ shown start ∷ shown (advance None 200) ∷ shown (advance None 0)
+    ∷ shown start ∷ shown (advance None 200)
+    ∷ idle 45 200 ∷ shown retire ∷ shown (advance (Some 208) 200)
+    ∷ shown (fetch (op 208 7 Branch true false (34 ∷ 113 ∷ 34 ∷ 32 ∷ 120 ∷ 55 ∷ []) None (Some (bytes "x2")) (bytes "x3" ∷ bytes "x2"
     ∷ bytes "x0" ∷ bytes "x2" ∷ bytes "x0" ∷ bytes "x2" ∷ bytes "x1" ∷ bytes "x0" ∷ []) (bytes "x3" ∷ bytes "x3" ∷ bytes "x1" ∷
     bytes "x1" ∷ []) 145) 200)
-    ∷ shown start ∷ shown (advance none 200)
+    ∷ shown start ∷ shown (advance None 200)
     ∷ rest ∷ []
 
 abbrev numbers : List ℕ

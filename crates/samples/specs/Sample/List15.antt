@@ -1,6 +1,5 @@
 -- List 15 of the sample, from seed 1294. Made by the harness: see docs/SAMPLES.md.
-use Rattle.std.specs.Prelude.{ℕ, true, false, List, [], ◌∷◌}
-use Rattle.std.proofs.Math.Option.{none, some}
+use Rattle.std.specs.Prelude.{ℕ, true, false, List, [], ◌∷◌, None, Some}
 use Rattle.laws.specs.Texts.{bytes}
 use Rattle.capability.specs.declared.PipelineInstructionClass.TheVariants.{Multiply, Divide, Load, Store, System, FloatingPoint, Unknown}
 use Rattle.model.specs.Config.{timing, unit_spec, PipelineShape, pipeline_shape}
@@ -45,76 +44,76 @@ use Rattle.samples.specs.Lists.{Step, shown, rest, Case, case_of, op}
 
 abbrev shape : PipelineShape
 shape =
-    pipeline_shape [] (some 18446744073709551614) (timing 5 0 0 3 1 3 3) (unit_spec (bytes "FPU") (Unknown ∷ Load ∷ Unknown ∷ [])
+    pipeline_shape [] (Some 18446744073709551614) (timing 5 0 0 3 1 3 3) (unit_spec (bytes "FPU") (Unknown ∷ Load ∷ Unknown ∷ [])
     FloatingPoint 4 ∷ []) 1
 
 abbrev steps : List Step
 steps =
     shown (overlap true)
-    ∷ shown (fetch (op 0 18446744073709551614 Multiply false true (bytes "fadd x0") (some (bytes "page fault")) none (bytes "x1" ∷ []
+    ∷ shown (fetch (op 0 18446744073709551614 Multiply false true (bytes "fadd x0") (Some (bytes "page fault")) None (bytes "x1" ∷ []
     ∷ bytes "x0" ∷ []) (bytes "zzzzzzzzzzzzzzzzz" ∷ []) 913) 0) ∷ shown (view timeline_len) ∷ shown (reset 96 200) ∷ shown retire
     ∷ shown start ∷ shown (text (rename_register 0) 200)
-    ∷ shown start ∷ shown (advance none 200)
-    ∷ shown (fetch (op 96 1 Unknown false false (bytes "nop x8") none (some (bytes "a.0")) (bytes "x2" ∷ bytes " x 1" ∷ bytes "x1" ∷
+    ∷ shown start ∷ shown (advance None 200)
+    ∷ shown (fetch (op 96 1 Unknown false false (bytes "nop x8") None (Some (bytes "a.0")) (bytes "x2" ∷ bytes " x 1" ∷ bytes "x1" ∷
     []) (bytes "a.0" ∷ bytes "x1" ∷ []) 818) 200)
-    ∷ shown start ∷ shown (advance none 200) ∷ shown (text (stage_name 1) 1) ∷ shown (resolve 16) ∷ shown (view station_count) ∷
-    shown (cell 0 2 200) ∷ shown (advance none 200)
-    ∷ shown (fetch (op 94 11 Load false false (bytes "lw x9") none (some (97 ∷ 98 ∷ 127 ∷ [])) (bytes "b.0" ∷ bytes "rflags" ∷
+    ∷ shown start ∷ shown (advance None 200) ∷ shown (text (stage_name 1) 1) ∷ shown (resolve 16) ∷ shown (view station_count) ∷
+    shown (cell 0 2 200) ∷ shown (advance None 200)
+    ∷ shown (fetch (op 94 11 Load false false (bytes "lw x9") None (Some (97 ∷ 98 ∷ 127 ∷ [])) (bytes "b.0" ∷ bytes "rflags" ∷
     bytes "x0" ∷ bytes "x2" ∷ bytes "sixteen-bytes-ok" ∷ bytes "x1" ∷ bytes "x1" ∷ bytes "x2" ∷ []) (bytes "x0" ∷ bytes "x1" ∷
     bytes "x2" ∷ bytes "x0" ∷ bytes "x1" ∷ []) 307) 200) ∷ shown (cell 0 3 200)
-    ∷ shown (fetch (op 94 3 Load false false (bytes "nop x3") (some []) (some (bytes "x2")) (bytes "x1" ∷ bytes "x0" ∷ [])
+    ∷ shown (fetch (op 94 3 Load false false (bytes "nop x3") (Some []) (Some (bytes "x2")) (bytes "x1" ∷ bytes "x0" ∷ [])
     (bytes "x2" ∷ []) 72) 200)
-    ∷ shown start ∷ shown (advance none 200)
-    ∷ shown (fetch (op 92 4 Load false false (bytes "add x1") none (some (bytes "sixteen-bytes-ok")) (bytes "x1" ∷ bytes "x1" ∷
+    ∷ shown start ∷ shown (advance None 200)
+    ∷ shown (fetch (op 92 4 Load false false (bytes "add x1") None (Some (bytes "sixteen-bytes-ok")) (bytes "x1" ∷ bytes "x1" ∷
     bytes "x2" ∷ bytes "x2" ∷ []) (bytes "x2" ∷ bytes "x1" ∷ []) 832) 200) ∷ shown (text (stage_name 0) 2)
-    ∷ shown start ∷ shown (advance none 200)
-    ∷ shown start ∷ shown (text (station_label 3) 0) ∷ shown (advance none 200)
+    ∷ shown start ∷ shown (advance None 200)
+    ∷ shown start ∷ shown (text (station_label 3) 0) ∷ shown (advance None 200)
     ∷ shown start ∷ shown (capacity 0 1) ∷ shown retire ∷ shown (view (rename 1)) ∷ shown (reset 232 200) ∷ shown (cell 0 0 200) ∷
     shown (text (station_label 1) 4)
-    ∷ shown start ∷ shown (advance none 200)
-    ∷ shown (fetch (op 232 7 Load false false (bytes "add x0") none (some (bytes "x0")) (bytes "x1" ∷ bytes "x2" ∷ bytes "x0" ∷
+    ∷ shown start ∷ shown (advance None 200)
+    ∷ shown (fetch (op 232 7 Load false false (bytes "add x0") None (Some (bytes "x0")) (bytes "x1" ∷ bytes "x2" ∷ bytes "x0" ∷
     bytes "x2" ∷ bytes "x2" ∷ bytes "x2" ∷ bytes "x1" ∷ bytes "x1" ∷ bytes "sixteen-bytes-ok" ∷ []) (bytes "x0" ∷ bytes "x2" ∷ [])
     18446744073709551615) 200) ∷ shown (text status_message 0)
-    ∷ shown (fetch (op 232 9223372036854775808 System false false (bytes "sw x6") none (some []) (bytes "sixteen-bytes-ok" ∷
+    ∷ shown (fetch (op 232 9223372036854775808 System false false (bytes "sw x6") None (Some []) (bytes "sixteen-bytes-ok" ∷
     bytes "x0" ∷ bytes "x0" ∷ []) (bytes "sixteen-bytes-ok" ∷ []) 586) 200)
-    ∷ shown start ∷ shown (advance none 200) ∷ shown (retry
+    ∷ shown start ∷ shown (advance None 200) ∷ shown (retry
     (bytes "zzzzzzzzzzzzzzzzzzzzzzzzzzzzzzzzzzzzzzzzzzzzzzzzzzzzzzzzzzzzzzzzz"))
-    ∷ shown start ∷ shown (advance none 200)
-    ∷ shown (fetch (op 230 8 Multiply false false (bytes "sw x3") none (some (bytes "shown")) (bytes "x2" ∷ bytes "x1" ∷ [])
+    ∷ shown start ∷ shown (advance None 200)
+    ∷ shown (fetch (op 230 8 Multiply false false (bytes "sw x3") None (Some (bytes "shown")) (bytes "x2" ∷ bytes "x1" ∷ [])
     (bytes "x2" ∷ bytes "x0" ∷ bytes "x1" ∷ bytes "x2" ∷ []) 493) 200)
-    ∷ shown start ∷ shown (text status_message 0) ∷ shown (advance none 200)
-    ∷ shown start ∷ shown halt ∷ shown (advance none 200)
-    ∷ shown start ∷ shown (advance none 200)
-    ∷ shown start ∷ shown (view buffer_capacity) ∷ shown halt ∷ shown (advance none 200) ∷ shown (cell 2 18446744073709551615 58)
-    ∷ shown start ∷ shown (view (rename 0)) ∷ shown (advance (some 5214636875268669323) 200) ∷ shown (view (unit 2))
-    ∷ shown start ∷ shown (advance (some 8) 200) ∷ shown (text (rename_register 0) 0)
-    ∷ shown (fetch (op 228 9223372036854775808 Load false false (bytes "lw x1") none (some (bytes "sixteen-bytes-ok")) (bytes "x1" ∷
+    ∷ shown start ∷ shown (text status_message 0) ∷ shown (advance None 200)
+    ∷ shown start ∷ shown halt ∷ shown (advance None 200)
+    ∷ shown start ∷ shown (advance None 200)
+    ∷ shown start ∷ shown (view buffer_capacity) ∷ shown halt ∷ shown (advance None 200) ∷ shown (cell 2 18446744073709551615 58)
+    ∷ shown start ∷ shown (view (rename 0)) ∷ shown (advance (Some 5214636875268669323) 200) ∷ shown (view (unit 2))
+    ∷ shown start ∷ shown (advance (Some 8) 200) ∷ shown (text (rename_register 0) 0)
+    ∷ shown (fetch (op 228 9223372036854775808 Load false false (bytes "lw x1") None (Some (bytes "sixteen-bytes-ok")) (bytes "x1" ∷
     bytes "x1" ∷ bytes " x 1" ∷ bytes "x0" ∷ bytes "x0" ∷ bytes "x1" ∷ bytes "rflags" ∷ bytes "x1" ∷ []) (bytes "x1" ∷ (31 ∷ []) ∷
     []) 206) 0) ∷ shown (redirect 208) ∷ shown retire
-    ∷ shown start ∷ shown (cell 0 2 200) ∷ shown (retry (bytes "waiting")) ∷ shown (advance none 204)
-    ∷ shown (fetch (op 208 3 Store false false (bytes "   ") none (some (bytes "x1")) (bytes "x2" ∷ bytes " x 1" ∷ []) (bytes "x1" ∷
+    ∷ shown start ∷ shown (cell 0 2 200) ∷ shown (retry (bytes "waiting")) ∷ shown (advance None 204)
+    ∷ shown (fetch (op 208 3 Store false false (bytes "   ") None (Some (bytes "x1")) (bytes "x2" ∷ bytes " x 1" ∷ []) (bytes "x1" ∷
     bytes "x1" ∷ bytes "x0" ∷ []) 942) 200)
-    ∷ shown start ∷ shown (advance none 200)
-    ∷ shown (fetch (op 206 4 Divide false true (bytes "lw x3") none none (bytes "x0" ∷ bytes "x0" ∷ bytes "x0" ∷ bytes "x0" ∷ [])
+    ∷ shown start ∷ shown (advance None 200)
+    ∷ shown (fetch (op 206 4 Divide false true (bytes "lw x3") None None (bytes "x0" ∷ bytes "x0" ∷ bytes "x0" ∷ bytes "x0" ∷ [])
     (bytes "x1" ∷ bytes "x1" ∷ bytes "x0" ∷ []) 824) 200) ∷ shown (cell 1 0 14) ∷ shown (text (slot_text (in_unit
     18446744073709551615) disassembly) 0) ∷ shown (view (in_flight_before 5))
-    ∷ shown start ∷ shown (advance none 200)
-    ∷ shown start ∷ shown (advance none 200) ∷ shown (text (unit_name 1) 0) ∷ shown (capacity 18446744073709551615 3) ∷ shown (retry
+    ∷ shown start ∷ shown (advance None 200)
+    ∷ shown start ∷ shown (advance None 200) ∷ shown (text (unit_name 1) 0) ∷ shown (capacity 18446744073709551615 3) ∷ shown (retry
     (bytes "waiting"))
-    ∷ shown start ∷ shown (advance (some 4) 200)
-    ∷ shown (fetch (op 4 2 Unknown false false (bytes "xor x7") (some []) (some (bytes "shown")) [] [] 18446744073709551614) 200) ∷
+    ∷ shown start ∷ shown (advance (Some 4) 200)
+    ∷ shown (fetch (op 4 2 Unknown false false (bytes "xor x7") (Some []) (Some (bytes "shown")) [] [] 18446744073709551614) 200) ∷
     shown (view (stage 0)) ∷ shown (text (slot_text (in_station 18446744073709551615) (write 0)) 200)
-    ∷ shown start ∷ shown (capacity 0 3) ∷ shown (advance none 200) ∷ shown (view unit_count) ∷ shown (cell 0 0 200)
-    ∷ shown (fetch (op 2 11 System false false (bytes "div                                                             ") none (some
+    ∷ shown start ∷ shown (capacity 0 3) ∷ shown (advance None 200) ∷ shown (view unit_count) ∷ shown (cell 0 0 200)
+    ∷ shown (fetch (op 2 11 System false false (bytes "div                                                             ") None (Some
     (bytes "sixteen-bytes-ok")) (bytes "x0" ∷ []) [] 466) 200)
-    ∷ shown (fetch (op 0 12 Store false false (32 ∷ 126 ∷ 92 ∷ 34 ∷ []) (some (31 ∷ [])) (some []) (bytes "x0" ∷ bytes "x1" ∷
+    ∷ shown (fetch (op 0 12 Store false false (32 ∷ 126 ∷ 92 ∷ 34 ∷ []) (Some (31 ∷ [])) (Some []) (bytes "x0" ∷ bytes "x1" ∷
     bytes "x1" ∷ bytes "x1" ∷ bytes "x1" ∷ bytes "x1" ∷ bytes "x1" ∷ bytes "x1" ∷ (0 ∷ []) ∷ []) (bytes "x1" ∷ []) 549) 0)
-    ∷ shown start ∷ shown (view (in_flight_before 3)) ∷ shown retire ∷ shown (resolve 156) ∷ shown (advance none 200) ∷ shown halt ∷
+    ∷ shown start ∷ shown (view (in_flight_before 3)) ∷ shown retire ∷ shown (resolve 156) ∷ shown (advance None 200) ∷ shown halt ∷
     shown (capacity 0 4) ∷ shown (capacity 0 3)
-    ∷ shown start ∷ shown (text (operand_register 4 2) 0) ∷ shown (advance none 200)
+    ∷ shown start ∷ shown (text (operand_register 4 2) 0) ∷ shown (advance None 200)
     ∷ shown start ∷ shown retire ∷ shown (reset 108 153) ∷ shown (cell 18446744073709551615 0 200) ∷ shown (text (rename_register
-    18446744073709551615) 0) ∷ shown (resolve 88) ∷ shown (cell 18446744073709551615 0 200) ∷ shown (advance none 200)
-    ∷ shown start ∷ shown (advance none 200)
+    18446744073709551615) 0) ∷ shown (resolve 88) ∷ shown (cell 18446744073709551615 0 200) ∷ shown (advance None 200)
+    ∷ shown start ∷ shown (advance None 200)
     ∷ rest ∷ []
 
 abbrev numbers : List ℕ

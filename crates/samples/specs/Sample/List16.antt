@@ -1,6 +1,5 @@
 -- List 16 of the sample, from seed 1283. Made by the harness: see docs/SAMPLES.md.
-use Rattle.std.specs.Prelude.{ℕ, true, false, List, [], ◌∷◌}
-use Rattle.std.proofs.Math.Option.{none, some}
+use Rattle.std.specs.Prelude.{ℕ, true, false, List, [], ◌∷◌, None, Some}
 use Rattle.laws.specs.Texts.{bytes}
 use Rattle.capability.specs.declared.PipelineInstructionClass.TheVariants.{Divide, Load, Branch, Jump, System}
 use Rattle.model.specs.Config.{timing, PipelineShape, pipeline_shape}
@@ -41,52 +40,52 @@ use Rattle.capability.specs.declared.PipelineStageRole.TheVariants as role
 
 abbrev shape : PipelineShape
 shape =
-    pipeline_shape (role.Other ∷ role.Decode ∷ role.Decode ∷ role.Decode ∷ role.Execute ∷ []) none (timing 8 3 0 0 2 1 3) [] 3
+    pipeline_shape (role.Other ∷ role.Decode ∷ role.Decode ∷ role.Decode ∷ role.Execute ∷ []) None (timing 8 3 0 0 2 1 3) [] 3
 
 abbrev steps : List Step
 steps =
     shown (capacity 0 1) ∷ shown (cell 1 0 600) ∷ shown (text (slot_text (in_queue 0) fault_note) 0) ∷ shown (text (row_disassembly
     0) 0)
-    ∷ shown start ∷ shown (overlap true) ∷ shown (advance none 600) ∷ shown (text (row_disassembly 1) 0) ∷ shown (text (station_label
+    ∷ shown start ∷ shown (overlap true) ∷ shown (advance None 600) ∷ shown (text (row_disassembly 1) 0) ∷ shown (text (station_label
     0) 3)
-    ∷ shown start ∷ shown (advance (some 9155918282696302449) 600) ∷ shown (resolve 1) ∷ shown (text (rename_register 0) 1) ∷ shown
+    ∷ shown start ∷ shown (advance (Some 9155918282696302449) 600) ∷ shown (resolve 1) ∷ shown (text (rename_register 0) 1) ∷ shown
     (view (timeline_row 0))
-    ∷ shown (fetch (op 9155918282696302449 6 Jump true false (bytes "fadd x6") none (some (bytes "zzzzzzzzzzzzzzzzz")) (bytes "x6" ∷
+    ∷ shown (fetch (op 9155918282696302449 6 Jump true false (bytes "fadd x6") None (Some (bytes "zzzzzzzzzzzzzzzzz")) (bytes "x6" ∷
     bytes "x6" ∷ []) (bytes "x4" ∷ []) 890) 600) ∷ shown retire ∷ shown retire
-    ∷ shown (fetch (op 9 11 Branch true false [] (some (bytes "ffffffffffffffffffffffffffffffffffffffffffffffffffffffffffffffff"))
-    none [] [] 45) 600)
-    ∷ shown start ∷ shown (view (queued 0)) ∷ shown (advance none 600)
-    ∷ shown (fetch (op 20 8 Load false false (bytes "beq x8") none (some (bytes "sixteen-bytes-ok")) (bytes "x5" ∷ bytes "x1" ∷
+    ∷ shown (fetch (op 9 11 Branch true false [] (Some (bytes "ffffffffffffffffffffffffffffffffffffffffffffffffffffffffffffffff"))
+    None [] [] 45) 600)
+    ∷ shown start ∷ shown (view (queued 0)) ∷ shown (advance None 600)
+    ∷ shown (fetch (op 20 8 Load false false (bytes "beq x8") None (Some (bytes "sixteen-bytes-ok")) (bytes "x5" ∷ bytes "x1" ∷
     bytes "x6" ∷ []) [] 459) 600) ∷ shown (view (rename 0))
-    ∷ shown start ∷ shown (advance none 600)
-    ∷ shown (fetch (op 28 14 Divide false false (bytes "sub x7") none (some (bytes "x0")) (bytes "x7" ∷ bytes "x3" ∷ []) (bytes "x0"
+    ∷ shown start ∷ shown (advance None 600)
+    ∷ shown (fetch (op 28 14 Divide false false (bytes "sub x7") None (Some (bytes "x0")) (bytes "x7" ∷ bytes "x3" ∷ []) (bytes "x0"
     ∷ []) 384) 600)
-    ∷ shown (fetch (op 42 4 Jump true false (bytes "xor x4") none none [] (bytes "x0" ∷ bytes "x3" ∷ bytes "x6" ∷ bytes "x1" ∷
+    ∷ shown (fetch (op 42 4 Jump true false (bytes "xor x4") None None [] (bytes "x0" ∷ bytes "x3" ∷ bytes "x6" ∷ bytes "x1" ∷
     bytes "x2" ∷ []) 85) 600)
-    ∷ shown start ∷ shown (view stage_order) ∷ shown (capacity 0 0) ∷ shown (capacity 1 65) ∷ shown (advance (some
+    ∷ shown start ∷ shown (view stage_order) ∷ shown (capacity 0 0) ∷ shown (capacity 1 65) ∷ shown (advance (Some
     18446744073709551614) 600)
-    ∷ shown (fetch (op 18446744073709551614 0 Divide false false (bytes "   ") (some
-    (bytes "ffffffffffffffffffffffffffffffffffffffffffffffffffffffffffffffff")) none (bytes "x4" ∷ bytes "x4" ∷ []) [] 373) 600) ∷
+    ∷ shown (fetch (op 18446744073709551614 0 Divide false false (bytes "   ") (Some
+    (bytes "ffffffffffffffffffffffffffffffffffffffffffffffffffffffffffffffff")) None (bytes "x4" ∷ bytes "x4" ∷ []) [] 373) 600) ∷
     shown (view buffer_count) ∷ shown (view (unit 0))
-    ∷ shown start ∷ shown (advance none 600) ∷ shown (retry (bytes "waiting"))
-    ∷ shown (fetch (op 18446744073709551615 13 Jump true false (bytes "  div  x1 ") none (some (bytes "shown")) [] (bytes "x0" ∷ [])
+    ∷ shown start ∷ shown (advance None 600) ∷ shown (retry (bytes "waiting"))
+    ∷ shown (fetch (op 18446744073709551615 13 Jump true false (bytes "  div  x1 ") None (Some (bytes "shown")) [] (bytes "x0" ∷ [])
     613) 600)
-    ∷ shown start ∷ shown retire ∷ shown (fault (bytes "waiting")) ∷ shown (advance none 600)
+    ∷ shown start ∷ shown retire ∷ shown (fault (bytes "waiting")) ∷ shown (advance None 600)
     ∷ shown start ∷ shown (capacity 0 65) ∷ shown (reset 32 600)
-    ∷ shown start ∷ shown (cell 18446744073709551615 1 600) ∷ shown (advance none 600)
-    ∷ shown (fetch (op 32 2 Branch true false (34 ∷ 113 ∷ 34 ∷ 32 ∷ 120 ∷ 55 ∷ []) (some
-    (bytes "ffffffffffffffffffffffffffffffffffffffffffffffffffffffffffffffff")) (some (bytes "x4")) [] (bytes "x4" ∷ []) 434) 600)
-    ∷ shown (fetch (op 34 1 Branch false false (bytes "beq x5") (some (bytes "page fault")) (some []) (bytes "x7" ∷ bytes "x5" ∷
+    ∷ shown start ∷ shown (cell 18446744073709551615 1 600) ∷ shown (advance None 600)
+    ∷ shown (fetch (op 32 2 Branch true false (34 ∷ 113 ∷ 34 ∷ 32 ∷ 120 ∷ 55 ∷ []) (Some
+    (bytes "ffffffffffffffffffffffffffffffffffffffffffffffffffffffffffffffff")) (Some (bytes "x4")) [] (bytes "x4" ∷ []) 434) 600)
+    ∷ shown (fetch (op 34 1 Branch false false (bytes "beq x5") (Some (bytes "page fault")) (Some []) (bytes "x7" ∷ bytes "x5" ∷
     bytes "x1" ∷ bytes "zzzzzzzzzzzzzzzzz" ∷ []) (bytes "rflags" ∷ []) 992) 600)
-    ∷ shown start ∷ shown (advance none 599) ∷ shown (advance none 600)
-    ∷ shown (fetch (op 34 8 Load false false (10 ∷ []) none (some (bytes "x3")) (bytes "x4" ∷ bytes "x3" ∷ bytes "rflags" ∷ [])
+    ∷ shown start ∷ shown (advance None 599) ∷ shown (advance None 600)
+    ∷ shown (fetch (op 34 8 Load false false (10 ∷ []) None (Some (bytes "x3")) (bytes "x4" ∷ bytes "x3" ∷ bytes "rflags" ∷ [])
     (bytes "x3" ∷ bytes "x5" ∷ bytes "x2" ∷ []) 427) 0) ∷ shown (cell 1 0 600)
-    ∷ shown (fetch (op 34 14 Divide false false (bytes "bbbbbbbbbbbbbbbbbbbbbbbbbbbbbbbbbbbbbbbbbbbbbbbbbbbbbbbbbbbbbbbb") none (some
+    ∷ shown (fetch (op 34 14 Divide false false (bytes "bbbbbbbbbbbbbbbbbbbbbbbbbbbbbbbbbbbbbbbbbbbbbbbbbbbbbbbbbbbbbbbb") None (Some
     (bytes "sixteen-bytes-ok")) (bytes "x3" ∷ bytes "x5" ∷ []) (bytes "x1" ∷ []) 572) 600)
-    ∷ shown start ∷ shown (advance none 600) ∷ shown (text (slot_text (in_station 0) (write 0)) 2) ∷ shown (view (station 0))
-    ∷ shown (fetch (op 48 10 System false false (bytes "nop x7") none (some (bytes "shown")) (bytes "x1" ∷ bytes "x5" ∷ [])
+    ∷ shown start ∷ shown (advance None 600) ∷ shown (text (slot_text (in_station 0) (write 0)) 2) ∷ shown (view (station 0))
+    ∷ shown (fetch (op 48 10 System false false (bytes "nop x7") None (Some (bytes "shown")) (bytes "x1" ∷ bytes "x5" ∷ [])
     (bytes "x5" ∷ []) 180) 600)
-    ∷ shown start ∷ shown (advance none 600) ∷ shown (fault (bytes "waiting"))
+    ∷ shown start ∷ shown (advance None 600) ∷ shown (fault (bytes "waiting"))
     ∷ shown start ∷ shown (text (station_label 0) 200)
     ∷ rest ∷ []
 

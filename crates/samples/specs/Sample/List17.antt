@@ -1,6 +1,5 @@
 -- List 17 of the sample, from seed 2330. Made by the harness: see docs/SAMPLES.md.
-use Rattle.std.specs.Prelude.{ℕ, true, false, List, [], ◌∷◌}
-use Rattle.std.proofs.Math.Option.{none, some}
+use Rattle.std.specs.Prelude.{ℕ, true, false, List, [], ◌∷◌, None, Some}
 use Rattle.laws.specs.Texts.{bytes}
 use Rattle.capability.specs.declared.PipelineInstructionClass.TheVariants.{Alu, Multiply, Load, Store, FloatingPoint, Unknown}
 use Rattle.model.specs.Config.{timing, unit_spec, PipelineShape, pipeline_shape}
@@ -27,44 +26,44 @@ use Rattle.capability.specs.declared.PipelineStageRole.TheVariants as role
 
 abbrev shape : PipelineShape
 shape =
-    pipeline_shape (role.Writeback ∷ []) none (timing 2 0 1 3 3 8 1) (unit_spec (bytes "MUL") [] Store 3 ∷ unit_spec (bytes "FPU") []
+    pipeline_shape (role.Writeback ∷ []) None (timing 2 0 1 3 3 8 1) (unit_spec (bytes "MUL") [] Store 3 ∷ unit_spec (bytes "FPU") []
     Alu 0 ∷ []) 4
 
 abbrev steps : List Step
 steps =
     shown (overlap true)
-    ∷ shown start ∷ shown (resolve 13535429402420090196) ∷ shown (advance none 800)
-    ∷ shown (fetch (op 9223372036854775808 7 Load false false (bytes "jal x4") none (some (bytes "x0")) (bytes "x0" ∷ []) (bytes "x0"
-    ∷ []) 636) 800) ∷ shown (advance (some 180) 800)
-    ∷ shown start ∷ shown (cell 0 0 800) ∷ shown (advance none 800)
-    ∷ shown (fetch (op 9223372036854775815 7 FloatingPoint false false (bytes "sw x6") none (some (bytes "x1")) (bytes "x1" ∷
+    ∷ shown start ∷ shown (resolve 13535429402420090196) ∷ shown (advance None 800)
+    ∷ shown (fetch (op 9223372036854775808 7 Load false false (bytes "jal x4") None (Some (bytes "x0")) (bytes "x0" ∷ []) (bytes "x0"
+    ∷ []) 636) 800) ∷ shown (advance (Some 180) 800)
+    ∷ shown start ∷ shown (cell 0 0 800) ∷ shown (advance None 800)
+    ∷ shown (fetch (op 9223372036854775815 7 FloatingPoint false false (bytes "sw x6") None (Some (bytes "x1")) (bytes "x1" ∷
     bytes "x0" ∷ bytes "x0" ∷ bytes "x2" ∷ []) (bytes "x1" ∷ bytes "x0" ∷ []) 1) 800) ∷ shown (overlap false)
-    ∷ shown start ∷ shown (cell 1 1 800) ∷ shown (view trace_count) ∷ shown (advance none 800) ∷ shown (cell 0 0 800)
-    ∷ shown start ∷ shown (advance none 800) ∷ shown (capacity 1 65) ∷ shown (view rename_count)
-    ∷ shown start ∷ shown (capacity 1 0) ∷ shown (advance none 266) ∷ shown (advance none 800)
-    ∷ shown (fetch (op 9223372036854775822 3 Alu false false (bytes "  jal  x1 ") none none (bytes "x1" ∷ bytes "x1" ∷ [])
+    ∷ shown start ∷ shown (cell 1 1 800) ∷ shown (view trace_count) ∷ shown (advance None 800) ∷ shown (cell 0 0 800)
+    ∷ shown start ∷ shown (advance None 800) ∷ shown (capacity 1 65) ∷ shown (view rename_count)
+    ∷ shown start ∷ shown (capacity 1 0) ∷ shown (advance None 266) ∷ shown (advance None 800)
+    ∷ shown (fetch (op 9223372036854775822 3 Alu false false (bytes "  jal  x1 ") None None (bytes "x1" ∷ bytes "x1" ∷ [])
     (bytes "x0" ∷ bytes "x2" ∷ (97 ∷ 98 ∷ 127 ∷ []) ∷ []) 258) 800)
-    ∷ shown start ∷ shown (advance none 800) ∷ shown retire
-    ∷ shown start ∷ shown (advance none 799) ∷ shown (capacity 1 65)
-    ∷ shown (fetch (op 18446744073709551614 13 Alu false false (bytes "xor x7") none (some (128 ∷ [])) (bytes "x2" ∷ bytes "x2" ∷ [])
+    ∷ shown start ∷ shown (advance None 800) ∷ shown retire
+    ∷ shown start ∷ shown (advance None 799) ∷ shown (capacity 1 65)
+    ∷ shown (fetch (op 18446744073709551614 13 Alu false false (bytes "xor x7") None (Some (128 ∷ [])) (bytes "x2" ∷ bytes "x2" ∷ [])
     (bytes "x0" ∷ []) 578) 800)
-    ∷ shown (fetch (op 9223372036854775822 1 Unknown false false (31 ∷ []) (some (10 ∷ [])) (some []) (bytes "x2" ∷ bytes "x2" ∷
-    bytes "x2" ∷ bytes "x0" ∷ [] ∷ bytes "x2" ∷ bytes "x1" ∷ bytes "x2" ∷ bytes "x1" ∷ []) [] 1) 0) ∷ shown (advance none 799) ∷
-    shown (text (operand_register 18446744073709551615 2) 0) ∷ shown (advance none 800)
+    ∷ shown (fetch (op 9223372036854775822 1 Unknown false false (31 ∷ []) (Some (10 ∷ [])) (Some []) (bytes "x2" ∷ bytes "x2" ∷
+    bytes "x2" ∷ bytes "x0" ∷ [] ∷ bytes "x2" ∷ bytes "x1" ∷ bytes "x2" ∷ bytes "x1" ∷ []) [] 1) 0) ∷ shown (advance None 799) ∷
+    shown (text (operand_register 18446744073709551615 2) 0) ∷ shown (advance None 800)
     ∷ shown start
-    ∷ shown (fetch (op 9223372036854775822 6 Multiply false false [] none none [] (bytes "x0" ∷ bytes "x1" ∷ bytes "sixteen-bytes-ok"
-    ∷ bytes "x1" ∷ bytes "x2" ∷ []) 234) 800) ∷ shown (advance none 800)
-    ∷ shown start ∷ shown retire ∷ shown (advance none 800) ∷ shown (resolve 20) ∷ shown (text status_message 0)
-    ∷ shown start ∷ shown (advance none 800)
-    ∷ shown start ∷ shown (advance none 800) ∷ shown (capacity 2 3)
-    ∷ shown start ∷ shown (advance none 180) ∷ shown (advance none 800)
+    ∷ shown (fetch (op 9223372036854775822 6 Multiply false false [] None None [] (bytes "x0" ∷ bytes "x1" ∷ bytes "sixteen-bytes-ok"
+    ∷ bytes "x1" ∷ bytes "x2" ∷ []) 234) 800) ∷ shown (advance None 800)
+    ∷ shown start ∷ shown retire ∷ shown (advance None 800) ∷ shown (resolve 20) ∷ shown (text status_message 0)
+    ∷ shown start ∷ shown (advance None 800)
+    ∷ shown start ∷ shown (advance None 800) ∷ shown (capacity 2 3)
+    ∷ shown start ∷ shown (advance None 180) ∷ shown (advance None 800)
     ∷ shown start
-    ∷ shown (fetch (op 9223372036854775822 0 Alu false false (bytes "mul x6") none (some (bytes "sixteen-bytes-ok")) [] (bytes "x1" ∷
-    bytes "x2" ∷ bytes "x1" ∷ bytes "x1" ∷ []) 984) 0) ∷ shown (advance none 724)
-    ∷ shown (fetch (op 9223372036854775822 13 Load false false (10 ∷ []) none none ([] ∷ bytes "x0" ∷ []) (bytes "x1" ∷ []) 510) 0) ∷
-    shown (advance none 800) ∷ shown (cell 18446744073709551615 0 800) ∷ shown (view enabled) ∷ shown (view (in_flight_before 1))
+    ∷ shown (fetch (op 9223372036854775822 0 Alu false false (bytes "mul x6") None (Some (bytes "sixteen-bytes-ok")) [] (bytes "x1" ∷
+    bytes "x2" ∷ bytes "x1" ∷ bytes "x1" ∷ []) 984) 0) ∷ shown (advance None 724)
+    ∷ shown (fetch (op 9223372036854775822 13 Load false false (10 ∷ []) None None ([] ∷ bytes "x0" ∷ []) (bytes "x1" ∷ []) 510) 0) ∷
+    shown (advance None 800) ∷ shown (cell 18446744073709551615 0 800) ∷ shown (view enabled) ∷ shown (view (in_flight_before 1))
     ∷ shown start ∷ shown (text (slot_text on_offer (write 0)) 0) ∷ shown (redirect 172) ∷ shown (cell 2 0 800) ∷ shown (overlap true)
-    ∷ shown start ∷ shown (cell 18446744073709551615 0 800) ∷ shown (resolve 18446744073709551615) ∷ shown (advance none 800)
+    ∷ shown start ∷ shown (cell 18446744073709551615 0 800) ∷ shown (resolve 18446744073709551615) ∷ shown (advance None 800)
     ∷ rest ∷ []
 
 abbrev numbers : List ℕ

@@ -1,6 +1,5 @@
 -- List 18 of the sample, from seed 132. Made by the harness: see docs/SAMPLES.md.
-use Rattle.std.specs.Prelude.{ℕ, true, false, List, [], ◌∷◌}
-use Rattle.std.proofs.Math.Option.{none, some}
+use Rattle.std.specs.Prelude.{ℕ, true, false, List, [], ◌∷◌, None, Some}
 use Rattle.laws.specs.Texts.{bytes}
 use Rattle.capability.specs.declared.PipelineInstructionClass.TheVariants.{
   Alu,
@@ -20,59 +19,59 @@ use Rattle.samples.specs.Lists.{Step, shown, rest, Case, case_of, op}
 
 abbrev shape : PipelineShape
 shape =
-    pipeline_shape [] (some 0) (timing 8 0 0 3 8 0 0) (unit_spec (bytes "SYS") (Unknown ∷ Divide ∷ []) Alu 4 ∷ unit_spec (bytes "EX")
+    pipeline_shape [] (Some 0) (timing 8 0 0 3 8 0 0) (unit_spec (bytes "SYS") (Unknown ∷ Divide ∷ []) Alu 4 ∷ unit_spec (bytes "EX")
     [] Multiply 4 ∷ unit_spec (bytes "SYS") (Jump ∷ Branch ∷ Alu ∷ []) Multiply 1 ∷ unit_spec (bytes "MUL") (Jump ∷ Jump ∷ Load ∷
     Branch ∷ Store ∷ System ∷ FloatingPoint ∷ []) Store 0 ∷ []) 2
 
 abbrev steps : List Step
 steps =
     shown (overlap true)
-    ∷ shown start ∷ shown (advance none 400)
-    ∷ shown (fetch (op 0 0 Alu false false (bytes "jal                                                             ") none (some
+    ∷ shown start ∷ shown (advance None 400)
+    ∷ shown (fetch (op 0 0 Alu false false (bytes "jal                                                             ") None (Some
     (bytes "sixteen-bytes-ok")) (bytes " x 1" ∷ bytes "x4" ∷ bytes "x4" ∷ bytes "x4" ∷ bytes "x4" ∷ bytes "x1" ∷ bytes "x3" ∷
     bytes "x3" ∷ []) (bytes "x2" ∷ bytes "sixteen-bytes-ok" ∷ bytes "x4" ∷ bytes "x4" ∷ []) 323) 400)
-    ∷ shown start ∷ shown (advance none 400)
-    ∷ shown (fetch (op 1 2 Store false false (bytes "   ") none (some (bytes "x4")) (bytes "x5" ∷ bytes "x4" ∷ []) (bytes "x4" ∷ [])
+    ∷ shown start ∷ shown (advance None 400)
+    ∷ shown (fetch (op 1 2 Store false false (bytes "   ") None (Some (bytes "x4")) (bytes "x5" ∷ bytes "x4" ∷ []) (bytes "x4" ∷ [])
     94) 400)
-    ∷ shown start ∷ shown (advance none 400)
-    ∷ shown start ∷ shown (advance none 400)
-    ∷ shown start ∷ shown (advance none 400)
-    ∷ shown start ∷ shown (advance none 400)
-    ∷ shown start ∷ shown (advance none 400)
-    ∷ shown start ∷ shown (advance none 400)
-    ∷ shown start ∷ shown (advance none 400)
-    ∷ shown start ∷ shown (advance none 400)
-    ∷ shown start ∷ shown (advance none 400)
-    ∷ shown start ∷ shown (advance none 400)
-    ∷ shown start ∷ shown (advance none 400)
-    ∷ shown start ∷ shown retire ∷ shown (advance none 400)
-    ∷ shown (fetch (op 2 13 Alu false false (bytes "add x7") none none (bytes "x4" ∷ []) [] 680) 400)
-    ∷ shown start ∷ shown (advance none 401)
-    ∷ shown (fetch (op 3 0 Store false false (bytes "lw x8") (some
-    (bytes "ffffffffffffffffffffffffffffffffffffffffffffffffffffffffffffffff")) (some (bytes "sixteen-bytes-ok")) (bytes "x5" ∷
+    ∷ shown start ∷ shown (advance None 400)
+    ∷ shown start ∷ shown (advance None 400)
+    ∷ shown start ∷ shown (advance None 400)
+    ∷ shown start ∷ shown (advance None 400)
+    ∷ shown start ∷ shown (advance None 400)
+    ∷ shown start ∷ shown (advance None 400)
+    ∷ shown start ∷ shown (advance None 400)
+    ∷ shown start ∷ shown (advance None 400)
+    ∷ shown start ∷ shown (advance None 400)
+    ∷ shown start ∷ shown (advance None 400)
+    ∷ shown start ∷ shown (advance None 400)
+    ∷ shown start ∷ shown retire ∷ shown (advance None 400)
+    ∷ shown (fetch (op 2 13 Alu false false (bytes "add x7") None None (bytes "x4" ∷ []) [] 680) 400)
+    ∷ shown start ∷ shown (advance None 401)
+    ∷ shown (fetch (op 3 0 Store false false (bytes "lw x8") (Some
+    (bytes "ffffffffffffffffffffffffffffffffffffffffffffffffffffffffffffffff")) (Some (bytes "sixteen-bytes-ok")) (bytes "x5" ∷
     bytes "x1" ∷ bytes " x 1" ∷ []) (bytes "sixteen-bytes-ok" ∷ bytes "sixteen-bytes-ok" ∷ []) 688) 400)
-    ∷ shown start ∷ shown (advance none 400)
-    ∷ shown (fetch (op 4 5 Load false false (bytes "sw x8") (some
-    (bytes "ffffffffffffffffffffffffffffffffffffffffffffffffffffffffffffffff")) (some (bytes "x1")) (bytes "x5" ∷ bytes "x0" ∷
+    ∷ shown start ∷ shown (advance None 400)
+    ∷ shown (fetch (op 4 5 Load false false (bytes "sw x8") (Some
+    (bytes "ffffffffffffffffffffffffffffffffffffffffffffffffffffffffffffffff")) (Some (bytes "x1")) (bytes "x5" ∷ bytes "x0" ∷
     bytes "x1" ∷ []) (bytes "x1" ∷ bytes "x2" ∷ bytes "x5" ∷ []) 343) 400)
-    ∷ shown start ∷ shown (advance none 400)
-    ∷ shown (fetch (op 5 14 FloatingPoint false false (bytes "beq x9") (some
-    (bytes "ffffffffffffffffffffffffffffffffffffffffffffffffffffffffffffffff")) (some (bytes "sixteen-bytes-ok")) (bytes "x0" ∷
+    ∷ shown start ∷ shown (advance None 400)
+    ∷ shown (fetch (op 5 14 FloatingPoint false false (bytes "beq x9") (Some
+    (bytes "ffffffffffffffffffffffffffffffffffffffffffffffffffffffffffffffff")) (Some (bytes "sixteen-bytes-ok")) (bytes "x0" ∷
     bytes "rflags" ∷ bytes "x3" ∷ bytes "sixteen-bytes-ok" ∷ bytes "x5" ∷ bytes "x5" ∷ bytes "x2" ∷ bytes "x5" ∷ []) (bytes "x4" ∷
     bytes "rflags" ∷ bytes "x1" ∷ []) 392) 400)
-    ∷ shown start ∷ shown (advance none 400)
-    ∷ shown start ∷ shown (advance none 400)
-    ∷ shown start ∷ shown (advance none 400)
-    ∷ shown start ∷ shown (advance none 400)
-    ∷ shown start ∷ shown (advance none 400)
-    ∷ shown start ∷ shown (advance none 400)
-    ∷ shown start ∷ shown (advance none 400)
-    ∷ shown start ∷ shown (advance none 400)
-    ∷ shown start ∷ shown retire ∷ shown (resolve 12) ∷ shown (advance (some 4) 400)
-    ∷ shown start ∷ shown (advance none 400)
-    ∷ shown (fetch (op 4 4 Unknown false false (bytes "? x2") (some (bytes "page fault")) (some (bytes "x1")) (bytes "x1" ∷
+    ∷ shown start ∷ shown (advance None 400)
+    ∷ shown start ∷ shown (advance None 400)
+    ∷ shown start ∷ shown (advance None 400)
+    ∷ shown start ∷ shown (advance None 400)
+    ∷ shown start ∷ shown (advance None 400)
+    ∷ shown start ∷ shown (advance None 400)
+    ∷ shown start ∷ shown (advance None 400)
+    ∷ shown start ∷ shown (advance None 400)
+    ∷ shown start ∷ shown retire ∷ shown (resolve 12) ∷ shown (advance (Some 4) 400)
+    ∷ shown start ∷ shown (advance None 400)
+    ∷ shown (fetch (op 4 4 Unknown false false (bytes "? x2") (Some (bytes "page fault")) (Some (bytes "x1")) (bytes "x1" ∷
     bytes "x3" ∷ []) (bytes "x1" ∷ bytes "x0" ∷ []) 413) 400)
-    ∷ shown start ∷ shown retire ∷ shown (advance none 400)
+    ∷ shown start ∷ shown retire ∷ shown (advance None 400)
     ∷ rest ∷ []
 
 abbrev numbers : List ℕ

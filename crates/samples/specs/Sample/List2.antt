@@ -1,6 +1,5 @@
 -- List 2 of the sample, from seed 1699. Made by the harness: see docs/SAMPLES.md.
-use Rattle.std.specs.Prelude.{ℕ, true, false, List, [], ◌∷◌}
-use Rattle.std.proofs.Math.Option.{none, some}
+use Rattle.std.specs.Prelude.{ℕ, true, false, List, [], ◌∷◌, None, Some}
 use Rattle.laws.specs.Texts.{bytes}
 use Rattle.capability.specs.declared.PipelineInstructionClass.TheVariants.{
   Alu,
@@ -40,54 +39,54 @@ use Rattle.capability.specs.declared.PipelineStageRole.TheVariants as role
 
 abbrev shape : PipelineShape
 shape =
-    pipeline_shape (role.Decode ∷ role.Fetch ∷ role.Memory ∷ role.Execute ∷ role.Issue ∷ []) (some 4) (timing 1 0 8 0 0 0 2)
+    pipeline_shape (role.Decode ∷ role.Fetch ∷ role.Memory ∷ role.Execute ∷ role.Issue ∷ []) (Some 4) (timing 1 0 8 0 0 0 2)
     (unit_spec (bytes "FPU") (Store ∷ FloatingPoint ∷ System ∷ Branch ∷ Divide ∷ System ∷ FloatingPoint ∷ Load ∷ []) Multiply 1 ∷
     unit_spec (bytes "EX") [] Load 0 ∷ []) 2
 
 abbrev steps : List Step
 steps =
     shown (overlap true)
-    ∷ shown start ∷ shown (view buffer_capacity) ∷ shown (capacity 1 3) ∷ shown (advance none 0) ∷ shown (view queue_count)
-    ∷ shown start ∷ shown (advance none 400) ∷ shown (retry (31 ∷ []))
-    ∷ shown start ∷ shown (advance none 400)
-    ∷ shown (fetch (op 0 7 Alu false false (bytes "add x5") none (some []) [] [] 987) 403) ∷ shown (view enabled) ∷ shown (capacity
+    ∷ shown start ∷ shown (view buffer_capacity) ∷ shown (capacity 1 3) ∷ shown (advance None 0) ∷ shown (view queue_count)
+    ∷ shown start ∷ shown (advance None 400) ∷ shown (retry (31 ∷ []))
+    ∷ shown start ∷ shown (advance None 400)
+    ∷ shown (fetch (op 0 7 Alu false false (bytes "add x5") None (Some []) [] [] 987) 403) ∷ shown (view enabled) ∷ shown (capacity
     18446744073709551615 0) ∷ shown retire
-    ∷ shown start ∷ shown (advance none 400) ∷ shown (fault (bytes "waiting"))
-    ∷ shown start ∷ shown (advance none 400)
-    ∷ shown start ∷ shown (text (row_disassembly 0) 6) ∷ shown (cell 2 18446744073709551615 400) ∷ shown (advance none 400)
+    ∷ shown start ∷ shown (advance None 400) ∷ shown (fault (bytes "waiting"))
+    ∷ shown start ∷ shown (advance None 400)
+    ∷ shown start ∷ shown (text (row_disassembly 0) 6) ∷ shown (cell 2 18446744073709551615 400) ∷ shown (advance None 400)
     ∷ shown start ∷ shown (reset 188 400)
-    ∷ shown start ∷ shown retire ∷ shown (advance none 400)
-    ∷ shown (fetch (op 188 10 Unknown true true (bytes "beq x8") none (some (bytes "x5")) [] (bytes "x5" ∷ []) 766) 400)
-    ∷ shown start ∷ shown (view timeline_len) ∷ shown (advance none 400)
-    ∷ shown (fetch (op 192 0 Jump true false (bytes "lw x8") (some (bytes "page fault")) (some (bytes "sixteen-bytes-ok"))
+    ∷ shown start ∷ shown retire ∷ shown (advance None 400)
+    ∷ shown (fetch (op 188 10 Unknown true true (bytes "beq x8") None (Some (bytes "x5")) [] (bytes "x5" ∷ []) 766) 400)
+    ∷ shown start ∷ shown (view timeline_len) ∷ shown (advance None 400)
+    ∷ shown (fetch (op 192 0 Jump true false (bytes "lw x8") (Some (bytes "page fault")) (Some (bytes "sixteen-bytes-ok"))
     (bytes "x0" ∷ bytes "x5" ∷ bytes " x 1" ∷ bytes "x5" ∷ bytes "x0" ∷ bytes "x3" ∷ bytes "sixteen-bytes-ok" ∷ bytes "x0" ∷ [])
     (bytes "x1" ∷ bytes "x2" ∷ bytes "x2" ∷ bytes "x5" ∷ []) 9223372036854775808) 400)
-    ∷ shown start ∷ shown (cell 1 0 400) ∷ shown (advance none 400) ∷ shown (capacity 1 4) ∷ shown (capacity 1 3) ∷ shown (text
+    ∷ shown start ∷ shown (cell 1 0 400) ∷ shown (advance None 400) ∷ shown (capacity 1 4) ∷ shown (capacity 1 3) ∷ shown (text
     (trace_detail 0) 42) ∷ shown (retry (31 ∷ []))
-    ∷ shown (fetch (op 196 4 Divide false false (bytes "div x6") none none (bytes " x 1" ∷ []) [] 964) 400) ∷ shown (advance none
+    ∷ shown (fetch (op 196 4 Divide false false (bytes "div x6") None None (bytes " x 1" ∷ []) [] 964) 400) ∷ shown (advance None
     400) ∷ shown (view entry_stages)
-    ∷ shown (fetch (op 44 6 Jump false false (bytes "sub x4") none (some (bytes "x2")) [] (bytes "x2" ∷ (31 ∷ []) ∷ []) 434) 400)
-    ∷ shown start ∷ shown (advance none 400)
-    ∷ shown (fetch (op 200 0 Branch true false (32 ∷ 32 ∷ 34 ∷ 113 ∷ 34 ∷ 32 ∷ 32 ∷ 120 ∷ 49 ∷ 32 ∷ []) none (some (bytes "shown"))
+    ∷ shown (fetch (op 44 6 Jump false false (bytes "sub x4") None (Some (bytes "x2")) [] (bytes "x2" ∷ (31 ∷ []) ∷ []) 434) 400)
+    ∷ shown start ∷ shown (advance None 400)
+    ∷ shown (fetch (op 200 0 Branch true false (32 ∷ 32 ∷ 34 ∷ 113 ∷ 34 ∷ 32 ∷ 32 ∷ 120 ∷ 49 ∷ 32 ∷ []) None (Some (bytes "shown"))
     (bytes "x7" ∷ []) [] 461) 400) ∷ shown (text (unit_name 18446744073709551615) 0) ∷ shown (fault (97 ∷ 98 ∷ 127 ∷ [])) ∷ shown
     (retry (bytes "waiting"))
-    ∷ shown start ∷ shown (retry (31 ∷ [])) ∷ shown (overlap false) ∷ shown (advance none 400) ∷ shown (text (trace_detail 0) 43) ∷
+    ∷ shown start ∷ shown (retry (31 ∷ [])) ∷ shown (overlap false) ∷ shown (advance None 400) ∷ shown (text (trace_detail 0) 43) ∷
     shown (text (stage_name 2) 1) ∷ shown retire
-    ∷ shown (fetch (op 204 3 Store false false (bytes "zzzzzzzzzzzzzzzzzzzzzzzzzzzzzzzzzzzzzzzzzzzzzzzzzzzzzzzzzzzzzzzzz") none (some
+    ∷ shown (fetch (op 204 3 Store false false (bytes "zzzzzzzzzzzzzzzzzzzzzzzzzzzzzzzzzzzzzzzzzzzzzzzzzzzzzzzzzzzzzzzzz") None (Some
     (bytes "x5")) (bytes "x4" ∷ (97 ∷ 98 ∷ 127 ∷ []) ∷ bytes "x0" ∷ []) (bytes "x2" ∷ bytes "x6" ∷ bytes "x5" ∷ bytes "x1" ∷
     bytes "x1" ∷ []) 752) 0)
-    ∷ shown start ∷ shown (advance none 0) ∷ shown (retry (bytes "waiting")) ∷ shown (cell 1 1 400) ∷ shown (cell 0 0 400) ∷ shown
-    (advance none 400) ∷ shown (fault (bytes "waiting"))
-    ∷ shown start ∷ shown (advance none 399)
-    ∷ shown start ∷ shown (advance (some 224) 400)
-    ∷ shown start ∷ shown retire ∷ shown (advance none 400) ∷ shown (text (trace_detail 18446744073709551615) 0)
-    ∷ shown start ∷ shown (advance none 400) ∷ shown (text (rename_register 0) 200) ∷ shown (advance (some 48) 400) ∷ shown (reset 8
+    ∷ shown start ∷ shown (advance None 0) ∷ shown (retry (bytes "waiting")) ∷ shown (cell 1 1 400) ∷ shown (cell 0 0 400) ∷ shown
+    (advance None 400) ∷ shown (fault (bytes "waiting"))
+    ∷ shown start ∷ shown (advance None 399)
+    ∷ shown start ∷ shown (advance (Some 224) 400)
+    ∷ shown start ∷ shown retire ∷ shown (advance None 400) ∷ shown (text (trace_detail 18446744073709551615) 0)
+    ∷ shown start ∷ shown (advance None 400) ∷ shown (text (rename_register 0) 200) ∷ shown (advance (Some 48) 400) ∷ shown (reset 8
     400)
-    ∷ shown start ∷ shown (advance none 400)
-    ∷ shown (fetch (op 8 0 Jump true false (bytes "sw x7") (some []) (some (bytes "x0")) (bytes "x0" ∷ bytes "x3" ∷ bytes "x7" ∷ [])
+    ∷ shown start ∷ shown (advance None 400)
+    ∷ shown (fetch (op 8 0 Jump true false (bytes "sw x7") (Some []) (Some (bytes "x0")) (bytes "x0" ∷ bytes "x3" ∷ bytes "x7" ∷ [])
     (bytes "x0" ∷ []) 609) 400)
-    ∷ shown start ∷ shown (advance none 400)
-    ∷ shown (fetch (op 12 14 Jump true false (bytes "zzzzzzzzzzzzzzzzzzzzzzzzzzzzzzzzzzzzzzzzzzzzzzzzzzzzzzzzzzzzzzzzz") none (some
+    ∷ shown start ∷ shown (advance None 400)
+    ∷ shown (fetch (op 12 14 Jump true false (bytes "zzzzzzzzzzzzzzzzzzzzzzzzzzzzzzzzzzzzzzzzzzzzzzzzzzzzzzzzzzzzzzzzz") None (Some
     (31 ∷ [])) (bytes "x1" ∷ bytes "x1" ∷ bytes "x1" ∷ (10 ∷ []) ∷ []) (bytes "x0" ∷ []) 104) 400) ∷ shown retire
     ∷ rest ∷ []
 

@@ -1,6 +1,5 @@
 -- List 22 of the sample, from seed 1379. Made by the harness: see docs/SAMPLES.md.
-use Rattle.std.specs.Prelude.{ℕ, true, false, List, [], ◌∷◌}
-use Rattle.std.proofs.Math.Option.{none, some}
+use Rattle.std.specs.Prelude.{ℕ, true, false, List, [], ◌∷◌, None, Some}
 use Rattle.laws.specs.Texts.{bytes}
 use Rattle.capability.specs.declared.PipelineInstructionClass.TheVariants.{Alu, Multiply, Divide, Load, Branch, FloatingPoint, Unknown}
 use Rattle.model.specs.Config.{timing, unit_spec, PipelineShape, pipeline_shape}
@@ -28,67 +27,67 @@ use Rattle.capability.specs.declared.PipelineStageRole.TheVariants as role
 
 abbrev shape : PipelineShape
 shape =
-    pipeline_shape (role.Commit ∷ role.Fetch ∷ []) (some 9223372036854775808) (timing 0 5 5 1 0 0 0) (unit_spec (bytes "12345678")
+    pipeline_shape (role.Commit ∷ role.Fetch ∷ []) (Some 9223372036854775808) (timing 0 5 5 1 0 0 0) (unit_spec (bytes "12345678")
     (Load ∷ Load ∷ Multiply ∷ Divide ∷ []) Branch 3 ∷ []) 1
 
 abbrev steps : List Step
 steps =
     shown (overlap true)
-    ∷ shown start ∷ shown (advance none 200) ∷ shown (text (slot_text on_offer fault_note) 0)
-    ∷ shown (fetch (op 0 11 FloatingPoint false false (bytes "add x1") none (some []) [] (bytes "x2" ∷ []) 296) 200)
-    ∷ shown start ∷ shown (advance none 200) ∷ shown (text status_message 0)
-    ∷ shown start ∷ shown (capacity 2 1) ∷ shown (advance none 200) ∷ shown (advance none 200)
-    ∷ shown (fetch (op 9223372036854775808 18446744073709551615 Alu false false (bytes "lw x9") none (some (bytes "x2")) (bytes "x2"
+    ∷ shown start ∷ shown (advance None 200) ∷ shown (text (slot_text on_offer fault_note) 0)
+    ∷ shown (fetch (op 0 11 FloatingPoint false false (bytes "add x1") None (Some []) [] (bytes "x2" ∷ []) 296) 200)
+    ∷ shown start ∷ shown (advance None 200) ∷ shown (text status_message 0)
+    ∷ shown start ∷ shown (capacity 2 1) ∷ shown (advance None 200) ∷ shown (advance None 200)
+    ∷ shown (fetch (op 9223372036854775808 18446744073709551615 Alu false false (bytes "lw x9") None (Some (bytes "x2")) (bytes "x2"
     ∷ bytes "x7" ∷ bytes "x2" ∷ bytes "x7" ∷ bytes "x2" ∷ bytes "x5" ∷ bytes "x6" ∷ bytes "x2" ∷ []) (bytes "x2" ∷ bytes "x0" ∷
     bytes "x7" ∷ bytes " x 1" ∷ []) 620) 200)
-    ∷ shown start ∷ shown (advance none 200)
-    ∷ shown start ∷ shown (advance none 200)
-    ∷ shown start ∷ shown (retry (bytes "waiting")) ∷ shown (advance none 200)
-    ∷ shown start ∷ shown (capacity 0 65) ∷ shown retire ∷ shown (advance none 202)
-    ∷ shown (fetch (op 0 4 Unknown false true (bytes "sw x8") (some []) none (bytes "x7" ∷ []) [] 689) 200) ∷ shown (view (station 0))
-    ∷ shown start ∷ shown (advance none 200)
+    ∷ shown start ∷ shown (advance None 200)
+    ∷ shown start ∷ shown (advance None 200)
+    ∷ shown start ∷ shown (retry (bytes "waiting")) ∷ shown (advance None 200)
+    ∷ shown start ∷ shown (capacity 0 65) ∷ shown retire ∷ shown (advance None 202)
+    ∷ shown (fetch (op 0 4 Unknown false true (bytes "sw x8") (Some []) None (bytes "x7" ∷ []) [] 689) 200) ∷ shown (view (station 0))
+    ∷ shown start ∷ shown (advance None 200)
     ∷ shown (fetch (op 9223372036854775808 0 Divide false false
-    (bytes "cccccccccccccccccccccccccccccccccccccccccccccccccccccccccccccccc") none (some (bytes "shown")) [] [] 388) 200) ∷ shown
+    (bytes "cccccccccccccccccccccccccccccccccccccccccccccccccccccccccccccccc") None (Some (bytes "shown")) [] [] 388) 200) ∷ shown
     (resolve 28)
-    ∷ shown start ∷ shown (advance none 200)
-    ∷ shown (fetch (op 0 9 Unknown false true (bytes "lw x9") none (some (bytes "sixteen-bytes-ok")) [] [] 344) 200)
-    ∷ shown start ∷ shown (advance none 200)
-    ∷ shown start ∷ shown (retry (bytes "waiting")) ∷ shown (advance (some 232) 200) ∷ shown (advance (some 1764421881263282091) 200)
-    ∷ shown (fetch (op 232 6 FloatingPoint false false (bytes "div x3") (some
-    (bytes "ffffffffffffffffffffffffffffffffffffffffffffffffffffffffffffffff")) (some (bytes "sixteen-bytes-ok")) (bytes "x2" ∷
+    ∷ shown start ∷ shown (advance None 200)
+    ∷ shown (fetch (op 0 9 Unknown false true (bytes "lw x9") None (Some (bytes "sixteen-bytes-ok")) [] [] 344) 200)
+    ∷ shown start ∷ shown (advance None 200)
+    ∷ shown start ∷ shown (retry (bytes "waiting")) ∷ shown (advance (Some 232) 200) ∷ shown (advance (Some 1764421881263282091) 200)
+    ∷ shown (fetch (op 232 6 FloatingPoint false false (bytes "div x3") (Some
+    (bytes "ffffffffffffffffffffffffffffffffffffffffffffffffffffffffffffffff")) (Some (bytes "sixteen-bytes-ok")) (bytes "x2" ∷
     bytes "x5" ∷ bytes "rflags" ∷ bytes "x1" ∷ []) (bytes "x0" ∷ bytes "x4" ∷ bytes "x3" ∷ []) 696) 200)
-    ∷ shown start ∷ shown (resolve 3798592162017850888) ∷ shown retire ∷ shown (cell 0 0 200) ∷ shown (advance none 200)
-    ∷ shown (fetch (op 9223372036854776040 9223372036854775808 Divide false false (bytes "add x2") none (some
+    ∷ shown start ∷ shown (resolve 3798592162017850888) ∷ shown retire ∷ shown (cell 0 0 200) ∷ shown (advance None 200)
+    ∷ shown (fetch (op 9223372036854776040 9223372036854775808 Divide false false (bytes "add x2") None (Some
     (bytes "sixteen-bytes-ok")) (bytes "x7" ∷ bytes "x1" ∷ []) (bytes "x7" ∷ []) 524) 200) ∷ shown halt
     ∷ shown start ∷ shown (redirect 152) ∷ shown (capacity 0 4) ∷ shown (view (station 0))
-    ∷ shown start ∷ shown (advance none 200)
+    ∷ shown start ∷ shown (advance None 200)
     ∷ shown (fetch (op 152 18446744073709551615 Alu false false
-    (bytes "cccccccccccccccccccccccccccccccccccccccccccccccccccccccccccccccc") (some
-    (bytes "ffffffffffffffffffffffffffffffffffffffffffffffffffffffffffffffff")) none [] [] 964) 200)
-    ∷ shown start ∷ shown (advance (some 176) 200) ∷ shown (cell 0 18446744073709551615 10)
-    ∷ shown (fetch (op 176 3 Multiply false false (bytes "jal x1") none (some (bytes "x0")) (bytes "x5" ∷ bytes "x1" ∷ bytes "x0" ∷
+    (bytes "cccccccccccccccccccccccccccccccccccccccccccccccccccccccccccccccc") (Some
+    (bytes "ffffffffffffffffffffffffffffffffffffffffffffffffffffffffffffffff")) None [] [] 964) 200)
+    ∷ shown start ∷ shown (advance (Some 176) 200) ∷ shown (cell 0 18446744073709551615 10)
+    ∷ shown (fetch (op 176 3 Multiply false false (bytes "jal x1") None (Some (bytes "x0")) (bytes "x5" ∷ bytes "x1" ∷ bytes "x0" ∷
     bytes "x1" ∷ bytes "x1" ∷ bytes "x1" ∷ bytes "x1" ∷ bytes "x1" ∷ (31 ∷ []) ∷ []) (bytes "x0" ∷ []) 292) 0)
-    ∷ shown (fetch (op 176 0 Alu false false (bytes "div x3") none (some (bytes "rflags")) (bytes "sixteen-bytes-ok" ∷ bytes "a.0" ∷
+    ∷ shown (fetch (op 176 0 Alu false false (bytes "div x3") None (Some (bytes "rflags")) (bytes "sixteen-bytes-ok" ∷ bytes "a.0" ∷
     bytes "x5" ∷ bytes "x1" ∷ bytes "sixteen-bytes-ok" ∷ bytes "x3" ∷ bytes "x6" ∷ bytes "x3" ∷ []) (bytes "rflags" ∷ bytes "x5" ∷
     bytes "x5" ∷ []) 707) 200)
-    ∷ shown start ∷ shown (advance none 200)
-    ∷ shown (fetch (op 9223372036854775984 12 FloatingPoint false false (bytes "lw x2") none none [] [] 583) 200)
-    ∷ shown start ∷ shown (advance none 0)
-    ∷ shown start ∷ shown (advance none 200)
-    ∷ shown (fetch (op 176 14 Divide false false (bytes "ecall x9") none none [] [] 481) 200)
-    ∷ shown start ∷ shown (text (slot_text (in_stage 4) (source 0)) 1) ∷ shown (advance none 200)
-    ∷ shown (fetch (op 9223372036854775984 1 FloatingPoint false false (bytes "? x4") none (some []) (bytes "b.0" ∷ bytes "x7" ∷ [])
+    ∷ shown start ∷ shown (advance None 200)
+    ∷ shown (fetch (op 9223372036854775984 12 FloatingPoint false false (bytes "lw x2") None None [] [] 583) 200)
+    ∷ shown start ∷ shown (advance None 0)
+    ∷ shown start ∷ shown (advance None 200)
+    ∷ shown (fetch (op 176 14 Divide false false (bytes "ecall x9") None None [] [] 481) 200)
+    ∷ shown start ∷ shown (text (slot_text (in_stage 4) (source 0)) 1) ∷ shown (advance None 200)
+    ∷ shown (fetch (op 9223372036854775984 1 FloatingPoint false false (bytes "? x4") None (Some []) (bytes "b.0" ∷ bytes "x7" ∷ [])
     (bytes "x2" ∷ []) 379) 200)
-    ∷ shown start ∷ shown (advance none 200)
-    ∷ shown (fetch (op 176 0 FloatingPoint false false (bytes "xor x6") none (some (bytes "sixteen-bytes-ok")) (bytes "x0" ∷
+    ∷ shown start ∷ shown (advance None 200)
+    ∷ shown (fetch (op 176 0 FloatingPoint false false (bytes "xor x6") None (Some (bytes "sixteen-bytes-ok")) (bytes "x0" ∷
     bytes "x6" ∷ bytes "x6" ∷ bytes "x2" ∷ []) (bytes "x2" ∷ bytes "x2" ∷ bytes " x 1" ∷ []) 969) 200) ∷ shown (view (unit
     18446744073709551615))
-    ∷ shown start ∷ shown retire ∷ shown (advance none 200) ∷ shown (overlap true) ∷ shown (advance (some 17281402582946106964) 0)
-    ∷ shown start ∷ shown (retry (bytes "waiting")) ∷ shown (fault (bytes "waiting")) ∷ shown (advance none 200)
-    ∷ shown start ∷ shown (advance none 200)
-    ∷ shown (fetch (op 9223372036854775984 9 Alu false false (34 ∷ 113 ∷ 34 ∷ 32 ∷ 120 ∷ 54 ∷ []) none none (bytes "x1" ∷ bytes "x2"
+    ∷ shown start ∷ shown retire ∷ shown (advance None 200) ∷ shown (overlap true) ∷ shown (advance (Some 17281402582946106964) 0)
+    ∷ shown start ∷ shown (retry (bytes "waiting")) ∷ shown (fault (bytes "waiting")) ∷ shown (advance None 200)
+    ∷ shown start ∷ shown (advance None 200)
+    ∷ shown (fetch (op 9223372036854775984 9 Alu false false (34 ∷ 113 ∷ 34 ∷ 32 ∷ 120 ∷ 54 ∷ []) None None (bytes "x1" ∷ bytes "x2"
     ∷ bytes "x4" ∷ bytes "x6" ∷ bytes "x1" ∷ bytes "x5" ∷ bytes "x5" ∷ bytes "x1" ∷ []) [] 246) 200)
-    ∷ shown start ∷ shown (advance none 200)
+    ∷ shown start ∷ shown (advance None 200)
     ∷ shown start
     ∷ rest ∷ []
 

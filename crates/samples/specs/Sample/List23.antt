@@ -1,6 +1,5 @@
 -- List 23 of the sample, from seed 387. Made by the harness: see docs/SAMPLES.md.
-use Rattle.std.specs.Prelude.{ℕ, true, false, List, [], ◌∷◌}
-use Rattle.std.proofs.Math.Option.{none, some}
+use Rattle.std.specs.Prelude.{ℕ, true, false, List, [], ◌∷◌, None, Some}
 use Rattle.laws.specs.Texts.{bytes}
 use Rattle.capability.specs.declared.PipelineInstructionClass.TheVariants.{Alu, Multiply, Divide, Load, System, FloatingPoint, Unknown}
 use Rattle.model.specs.Config.{timing, unit_spec, PipelineShape, pipeline_shape}
@@ -11,133 +10,133 @@ use Rattle.capability.specs.declared.PipelineStageRole.TheVariants as role
 abbrev shape : PipelineShape
 shape =
     pipeline_shape (role.Other ∷ role.Commit ∷ role.Other ∷ role.Issue ∷ role.Decode ∷ role.Decode ∷ role.Decode ∷ role.Decode ∷
-    role.Decode ∷ role.Decode ∷ role.Decode ∷ role.Decode ∷ role.Decode ∷ role.Decode ∷ role.Decode ∷ role.Execute ∷ []) (some 0)
+    role.Decode ∷ role.Decode ∷ role.Decode ∷ role.Decode ∷ role.Decode ∷ role.Decode ∷ role.Decode ∷ role.Execute ∷ []) (Some 0)
     (timing 0 1 200 1 200 0 0) (unit_spec (bytes " ") (FloatingPoint ∷ Load ∷ System ∷ System ∷ []) Divide 5 ∷ unit_spec (bytes " ")
     [] Unknown 59 ∷ []) 1
 
 abbrev steps : List Step
 steps =
     shown (overlap true)
-    ∷ quiet start ∷ quiet (advance none 200)
-    ∷ quiet (fetch (op 0 0 Divide false false (bytes "sub x5") none (some (bytes "shown")) [] (bytes "x0" ∷ []) 782) 200)
-    ∷ quiet start ∷ quiet (advance none 200)
-    ∷ quiet (fetch (op 1 7 Alu false false (32 ∷ 32 ∷ 34 ∷ 113 ∷ 34 ∷ 32 ∷ 32 ∷ 120 ∷ 49 ∷ 32 ∷ []) none none (bytes "x0" ∷ []) []
+    ∷ quiet start ∷ quiet (advance None 200)
+    ∷ quiet (fetch (op 0 0 Divide false false (bytes "sub x5") None (Some (bytes "shown")) [] (bytes "x0" ∷ []) 782) 200)
+    ∷ quiet start ∷ quiet (advance None 200)
+    ∷ quiet (fetch (op 1 7 Alu false false (32 ∷ 32 ∷ 34 ∷ 113 ∷ 34 ∷ 32 ∷ 32 ∷ 120 ∷ 49 ∷ 32 ∷ []) None None (bytes "x0" ∷ []) []
     822) 200)
-    ∷ shown start ∷ quiet (advance none 200)
-    ∷ quiet (fetch (op 2 3 Multiply false false (bytes "xor x4") none none (bytes "x0" ∷ []) [] 621) 200)
-    ∷ quiet start ∷ quiet (advance none 200)
-    ∷ quiet (fetch (op 3 13 Divide false false (bytes "ecall x2") none none (bytes "x0" ∷ []) [] 379) 200)
-    ∷ quiet start ∷ quiet (advance none 200)
-    ∷ quiet (fetch (op 4 2 Divide false false (bytes "? x4") (some []) none (bytes "x0" ∷ []) [] 9) 200)
-    ∷ quiet start ∷ quiet (advance none 200)
-    ∷ quiet (fetch (op 5 0 FloatingPoint false false (bytes "fadd                                                            ") none
-    none (bytes "sixteen-bytes-ok" ∷ bytes " x 1" ∷ bytes "x28" ∷ []) [] 968) 200)
-    ∷ quiet start ∷ quiet (advance none 200)
-    ∷ quiet (fetch (op 6 2 Alu false false (bytes "sw x0") none (some (bytes "x17")) (bytes "x15" ∷ bytes "x11" ∷ bytes "x2" ∷
+    ∷ shown start ∷ quiet (advance None 200)
+    ∷ quiet (fetch (op 2 3 Multiply false false (bytes "xor x4") None None (bytes "x0" ∷ []) [] 621) 200)
+    ∷ quiet start ∷ quiet (advance None 200)
+    ∷ quiet (fetch (op 3 13 Divide false false (bytes "ecall x2") None None (bytes "x0" ∷ []) [] 379) 200)
+    ∷ quiet start ∷ quiet (advance None 200)
+    ∷ quiet (fetch (op 4 2 Divide false false (bytes "? x4") (Some []) None (bytes "x0" ∷ []) [] 9) 200)
+    ∷ quiet start ∷ quiet (advance None 200)
+    ∷ quiet (fetch (op 5 0 FloatingPoint false false (bytes "fadd                                                            ") None
+    None (bytes "sixteen-bytes-ok" ∷ bytes " x 1" ∷ bytes "x28" ∷ []) [] 968) 200)
+    ∷ quiet start ∷ quiet (advance None 200)
+    ∷ quiet (fetch (op 6 2 Alu false false (bytes "sw x0") None (Some (bytes "x17")) (bytes "x15" ∷ bytes "x11" ∷ bytes "x2" ∷
     bytes "x19" ∷ []) (bytes "x17" ∷ bytes "x15" ∷ bytes "x19" ∷ []) 170) 200)
-    ∷ shown start ∷ quiet (advance none 200)
-    ∷ quiet (fetch (op 7 14 Alu false false (bytes "  fadd  x1 ") none (some (bytes "sixteen-bytes-ok")) (bytes "x0" ∷ []) [] 929)
+    ∷ shown start ∷ quiet (advance None 200)
+    ∷ quiet (fetch (op 7 14 Alu false false (bytes "  fadd  x1 ") None (Some (bytes "sixteen-bytes-ok")) (bytes "x0" ∷ []) [] 929)
     200)
-    ∷ quiet start ∷ quiet (advance none 199) ∷ quiet (advance none 200)
-    ∷ shown (fetch (op 8 1 Alu false false [] none none (bytes "x0" ∷ []) [] 937) 200)
-    ∷ quiet start ∷ quiet (advance none 200)
-    ∷ shown (fetch (op 9 11 Multiply false false [] none (some (bytes "shown")) (bytes "x0" ∷ []) [] 157) 200)
-    ∷ shown start ∷ quiet retire ∷ quiet (advance none 200)
-    ∷ quiet (fetch (op 0 14 Alu false false (bytes "mul x8") none (some (bytes "sixteen-bytes-ok")) (bytes "x0" ∷ []) [] 828) 200)
-    ∷ quiet start ∷ quiet retire ∷ quiet (advance none 200)
-    ∷ quiet (fetch (op 1 9 Divide false false (34 ∷ 113 ∷ 34 ∷ 32 ∷ 120 ∷ 53 ∷ []) none (some (bytes "x30")) (bytes "x11" ∷
+    ∷ quiet start ∷ quiet (advance None 199) ∷ quiet (advance None 200)
+    ∷ shown (fetch (op 8 1 Alu false false [] None None (bytes "x0" ∷ []) [] 937) 200)
+    ∷ quiet start ∷ quiet (advance None 200)
+    ∷ shown (fetch (op 9 11 Multiply false false [] None (Some (bytes "shown")) (bytes "x0" ∷ []) [] 157) 200)
+    ∷ shown start ∷ quiet retire ∷ quiet (advance None 200)
+    ∷ quiet (fetch (op 0 14 Alu false false (bytes "mul x8") None (Some (bytes "sixteen-bytes-ok")) (bytes "x0" ∷ []) [] 828) 200)
+    ∷ quiet start ∷ quiet retire ∷ quiet (advance None 200)
+    ∷ quiet (fetch (op 1 9 Divide false false (34 ∷ 113 ∷ 34 ∷ 32 ∷ 120 ∷ 53 ∷ []) None (Some (bytes "x30")) (bytes "x11" ∷
     bytes "rflags" ∷ bytes "x2" ∷ bytes "x0" ∷ []) (bytes "x30" ∷ bytes "c.0" ∷ []) 55) 200)
-    ∷ quiet start ∷ quiet (advance none 200)
-    ∷ quiet (fetch (op 2 2 Alu false false (bytes "mul x5") none (some []) (bytes "x0" ∷ []) [] 218) 200)
-    ∷ quiet start ∷ quiet (advance none 200)
-    ∷ quiet (fetch (op 3 5 Alu false false (bytes "sub x3") (some (bytes "page fault")) none (bytes "x0" ∷ []) [] 577) 200)
-    ∷ quiet start ∷ quiet (advance none 200) ∷ quiet (advance (some 40) 0)
-    ∷ shown (fetch (op 4 4 Alu false false [] (some []) (some []) (bytes "x31" ∷ bytes "x26" ∷ bytes "x10" ∷ []) (bytes "x4" ∷
+    ∷ quiet start ∷ quiet (advance None 200)
+    ∷ quiet (fetch (op 2 2 Alu false false (bytes "mul x5") None (Some []) (bytes "x0" ∷ []) [] 218) 200)
+    ∷ quiet start ∷ quiet (advance None 200)
+    ∷ quiet (fetch (op 3 5 Alu false false (bytes "sub x3") (Some (bytes "page fault")) None (bytes "x0" ∷ []) [] 577) 200)
+    ∷ quiet start ∷ quiet (advance None 200) ∷ quiet (advance (Some 40) 0)
+    ∷ shown (fetch (op 4 4 Alu false false [] (Some []) (Some []) (bytes "x31" ∷ bytes "x26" ∷ bytes "x10" ∷ []) (bytes "x4" ∷
     bytes "x35" ∷ bytes "x7" ∷ []) 1) 200)
-    ∷ quiet start ∷ quiet (advance none 200)
-    ∷ quiet (fetch (op 18446744073709551615 0 Divide false false (bytes "  lw  x1 ") (some (bytes "page fault")) none (bytes "x0" ∷
+    ∷ quiet start ∷ quiet (advance None 200)
+    ∷ quiet (fetch (op 18446744073709551615 0 Divide false false (bytes "  lw  x1 ") (Some (bytes "page fault")) None (bytes "x0" ∷
     []) [] 110) 200)
-    ∷ quiet start ∷ quiet (advance none 200)
-    ∷ quiet (fetch (op 0 7 Alu false false (bytes "ecall x5") (some
-    (bytes "ffffffffffffffffffffffffffffffffffffffffffffffffffffffffffffffff")) (some (bytes "shown")) (bytes "x0" ∷ []) [] 377) 200)
-    ∷ shown start ∷ quiet (advance none 200)
-    ∷ quiet (fetch (op 1 10 Divide false false (bytes "nop                                                             ") none none
+    ∷ quiet start ∷ quiet (advance None 200)
+    ∷ quiet (fetch (op 0 7 Alu false false (bytes "ecall x5") (Some
+    (bytes "ffffffffffffffffffffffffffffffffffffffffffffffffffffffffffffffff")) (Some (bytes "shown")) (bytes "x0" ∷ []) [] 377) 200)
+    ∷ shown start ∷ quiet (advance None 200)
+    ∷ quiet (fetch (op 1 10 Divide false false (bytes "nop                                                             ") None None
     (bytes "x0" ∷ []) [] 939) 200)
-    ∷ quiet start ∷ quiet (advance none 200)
-    ∷ quiet (fetch (op 2 5 Alu false true (bytes "cccccccccccccccccccccccccccccccccccccccccccccccccccccccccccccccc") (some
-    (bytes "page fault")) none (bytes "x0" ∷ []) [] 419) 200)
-    ∷ quiet start ∷ quiet retire ∷ quiet (advance none 200)
-    ∷ quiet (fetch (op 3 1 Alu false true (bytes "add                                                             ") (some
-    (bytes "ffffffffffffffffffffffffffffffffffffffffffffffffffffffffffffffff")) (some (bytes "shown")) (bytes "x7" ∷ []) (bytes "x31"
+    ∷ quiet start ∷ quiet (advance None 200)
+    ∷ quiet (fetch (op 2 5 Alu false true (bytes "cccccccccccccccccccccccccccccccccccccccccccccccccccccccccccccccc") (Some
+    (bytes "page fault")) None (bytes "x0" ∷ []) [] 419) 200)
+    ∷ quiet start ∷ quiet retire ∷ quiet (advance None 200)
+    ∷ quiet (fetch (op 3 1 Alu false true (bytes "add                                                             ") (Some
+    (bytes "ffffffffffffffffffffffffffffffffffffffffffffffffffffffffffffffff")) (Some (bytes "shown")) (bytes "x7" ∷ []) (bytes "x31"
     ∷ []) 59) 200)
-    ∷ quiet start ∷ quiet (advance none 143) ∷ quiet (advance none 200)
-    ∷ quiet (fetch (op 4 3 FloatingPoint false false (bytes "aaaaaaaaaaaaaaaaaaaaaaaaaaaaaaaaaaaaaaaaaaaaaaaaaaaaaaaaaaaaaaaa") none
-    none (bytes "x0" ∷ []) [] 70) 200)
-    ∷ quiet start ∷ quiet (advance none 200)
-    ∷ quiet (fetch (op 5 0 FloatingPoint false false (bytes "  lw  x1 ") none none (bytes "x0" ∷ []) [] 126) 200)
-    ∷ quiet start ∷ quiet (advance none 200)
-    ∷ quiet (fetch (op 6 7 Alu false false (34 ∷ 113 ∷ 34 ∷ 32 ∷ 120 ∷ 55 ∷ []) none none (bytes "x17" ∷ bytes "x7" ∷ bytes "x20" ∷
+    ∷ quiet start ∷ quiet (advance None 143) ∷ quiet (advance None 200)
+    ∷ quiet (fetch (op 4 3 FloatingPoint false false (bytes "aaaaaaaaaaaaaaaaaaaaaaaaaaaaaaaaaaaaaaaaaaaaaaaaaaaaaaaaaaaaaaaa") None
+    None (bytes "x0" ∷ []) [] 70) 200)
+    ∷ quiet start ∷ quiet (advance None 200)
+    ∷ quiet (fetch (op 5 0 FloatingPoint false false (bytes "  lw  x1 ") None None (bytes "x0" ∷ []) [] 126) 200)
+    ∷ quiet start ∷ quiet (advance None 200)
+    ∷ quiet (fetch (op 6 7 Alu false false (34 ∷ 113 ∷ 34 ∷ 32 ∷ 120 ∷ 55 ∷ []) None None (bytes "x17" ∷ bytes "x7" ∷ bytes "x20" ∷
     bytes "x33" ∷ bytes "x13" ∷ bytes "x24" ∷ bytes "x20" ∷ bytes "x16" ∷ bytes "x0" ∷ []) [] 78) 200)
-    ∷ quiet (fetch (op 6 7 Divide false false (bytes "div x7") none none (bytes "x0" ∷ []) [] 357) 200)
-    ∷ quiet start ∷ quiet (advance none 200)
-    ∷ quiet (fetch (op 7 5 Alu false false (bytes "nop x9") none (some (bytes "x30")) (bytes "x28" ∷ bytes "x31" ∷ []) (bytes "x30" ∷
+    ∷ quiet (fetch (op 6 7 Divide false false (bytes "div x7") None None (bytes "x0" ∷ []) [] 357) 200)
+    ∷ quiet start ∷ quiet (advance None 200)
+    ∷ quiet (fetch (op 7 5 Alu false false (bytes "nop x9") None (Some (bytes "x30")) (bytes "x28" ∷ bytes "x31" ∷ []) (bytes "x30" ∷
     bytes "x14" ∷ []) 275) 200)
-    ∷ quiet start ∷ quiet retire ∷ quiet (advance none 200)
-    ∷ quiet (fetch (op 8 11 Multiply false false (bytes "cccccccccccccccccccccccccccccccccccccccccccccccccccccccccccccccc") (some [])
-    (some (bytes "shown")) (bytes "x0" ∷ []) [] 746) 200)
-    ∷ shown start ∷ quiet (advance none 200)
-    ∷ quiet (fetch (op 9 6 FloatingPoint false false (bytes "xor x6") none (some []) (bytes "x0" ∷ []) [] 649) 200)
-    ∷ quiet start ∷ quiet (advance none 200)
-    ∷ quiet (fetch (op 10 18446744073709551615 FloatingPoint false false (34 ∷ 113 ∷ 34 ∷ 32 ∷ 120 ∷ 54 ∷ []) none none (bytes "x0" ∷
+    ∷ quiet start ∷ quiet retire ∷ quiet (advance None 200)
+    ∷ quiet (fetch (op 8 11 Multiply false false (bytes "cccccccccccccccccccccccccccccccccccccccccccccccccccccccccccccccc") (Some [])
+    (Some (bytes "shown")) (bytes "x0" ∷ []) [] 746) 200)
+    ∷ shown start ∷ quiet (advance None 200)
+    ∷ quiet (fetch (op 9 6 FloatingPoint false false (bytes "xor x6") None (Some []) (bytes "x0" ∷ []) [] 649) 200)
+    ∷ quiet start ∷ quiet (advance None 200)
+    ∷ quiet (fetch (op 10 18446744073709551615 FloatingPoint false false (34 ∷ 113 ∷ 34 ∷ 32 ∷ 120 ∷ 54 ∷ []) None None (bytes "x0" ∷
     []) [] 600) 200)
-    ∷ quiet start ∷ quiet (advance none 200)
-    ∷ shown (fetch (op 11 6 Multiply false false (bytes "lw x0") none (some (bytes "shown")) (bytes "x0" ∷ []) [] 0) 200)
-    ∷ quiet start ∷ quiet (advance none 200)
-    ∷ quiet (fetch (op 12 12 Multiply false false (bytes "bbbbbbbbbbbbbbbbbbbbbbbbbbbbbbbbbbbbbbbbbbbbbbbbbbbbbbbbbbbbbbbb") (some
-    (bytes "page fault")) (some []) (bytes "x0" ∷ []) [] 332) 199)
-    ∷ quiet (fetch (op 12 3 Alu false false (bytes "mul x1") none (some (bytes "shown")) (bytes "x0" ∷ []) [] 674) 200)
-    ∷ quiet start ∷ quiet (advance none 200)
-    ∷ quiet (fetch (op 13 5 Alu false false (32 ∷ 126 ∷ 92 ∷ 34 ∷ []) (some
-    (bytes "ffffffffffffffffffffffffffffffffffffffffffffffffffffffffffffffff")) (some (bytes "x6")) (bytes "x8" ∷ bytes "x36" ∷
+    ∷ quiet start ∷ quiet (advance None 200)
+    ∷ shown (fetch (op 11 6 Multiply false false (bytes "lw x0") None (Some (bytes "shown")) (bytes "x0" ∷ []) [] 0) 200)
+    ∷ quiet start ∷ quiet (advance None 200)
+    ∷ quiet (fetch (op 12 12 Multiply false false (bytes "bbbbbbbbbbbbbbbbbbbbbbbbbbbbbbbbbbbbbbbbbbbbbbbbbbbbbbbbbbbbbbbb") (Some
+    (bytes "page fault")) (Some []) (bytes "x0" ∷ []) [] 332) 199)
+    ∷ quiet (fetch (op 12 3 Alu false false (bytes "mul x1") None (Some (bytes "shown")) (bytes "x0" ∷ []) [] 674) 200)
+    ∷ quiet start ∷ quiet (advance None 200)
+    ∷ quiet (fetch (op 13 5 Alu false false (32 ∷ 126 ∷ 92 ∷ 34 ∷ []) (Some
+    (bytes "ffffffffffffffffffffffffffffffffffffffffffffffffffffffffffffffff")) (Some (bytes "x6")) (bytes "x8" ∷ bytes "x36" ∷
     bytes "f.0" ∷ []) (bytes "x6" ∷ bytes "x28" ∷ bytes "x8" ∷ []) 403) 200)
-    ∷ quiet start ∷ quiet (advance none 200)
-    ∷ quiet start ∷ quiet (advance none 200)
-    ∷ quiet (fetch (op 14 15 Alu false true (32 ∷ 126 ∷ 92 ∷ 34 ∷ []) (some (bytes "page fault")) none (bytes "x0" ∷ []) [] 946) 200)
-    ∷ quiet start ∷ quiet (advance none 200)
-    ∷ quiet start ∷ quiet (advance none 200)
-    ∷ quiet (fetch (op 15 9 Divide false false (bytes "div x8") none none (bytes "x0" ∷ []) [] 674) 200)
-    ∷ shown start ∷ quiet (advance none 200)
-    ∷ quiet (fetch (op 16 9 Alu false false (bytes "mul x7") none (some []) (bytes "x28" ∷ []) (bytes "x28" ∷ []) 622) 199)
-    ∷ shown (fetch (op 16 9223372036854775808 FloatingPoint false false (bytes "  nop  x1 ") none (some (bytes "sixteen-bytes-ok"))
+    ∷ quiet start ∷ quiet (advance None 200)
+    ∷ quiet start ∷ quiet (advance None 200)
+    ∷ quiet (fetch (op 14 15 Alu false true (32 ∷ 126 ∷ 92 ∷ 34 ∷ []) (Some (bytes "page fault")) None (bytes "x0" ∷ []) [] 946) 200)
+    ∷ quiet start ∷ quiet (advance None 200)
+    ∷ quiet start ∷ quiet (advance None 200)
+    ∷ quiet (fetch (op 15 9 Divide false false (bytes "div x8") None None (bytes "x0" ∷ []) [] 674) 200)
+    ∷ shown start ∷ quiet (advance None 200)
+    ∷ quiet (fetch (op 16 9 Alu false false (bytes "mul x7") None (Some []) (bytes "x28" ∷ []) (bytes "x28" ∷ []) 622) 199)
+    ∷ shown (fetch (op 16 9223372036854775808 FloatingPoint false false (bytes "  nop  x1 ") None (Some (bytes "sixteen-bytes-ok"))
     (bytes "x0" ∷ []) [] 177) 200)
-    ∷ quiet start ∷ quiet (advance none 200)
-    ∷ quiet (fetch (op 17 15 FloatingPoint false false (bytes "add x1") (some
-    (bytes "ffffffffffffffffffffffffffffffffffffffffffffffffffffffffffffffff")) none (bytes "x0" ∷ []) [] 206) 200)
-    ∷ quiet start ∷ quiet (advance none 200)
-    ∷ quiet (fetch (op 18 0 Divide false false (bytes "mul x5") (some []) none (bytes "x0" ∷ []) [] 482) 200)
-    ∷ shown start ∷ quiet (advance none 200)
-    ∷ quiet (fetch (op 19 12 Alu false false (bytes "jal x8") none (some (bytes "shown")) (bytes "x0" ∷ []) [] 836) 200)
-    ∷ quiet start ∷ quiet (advance none 200)
-    ∷ quiet (fetch (op 20 9223372036854775808 Unknown false false (bytes "fadd x1") none (some (bytes "shown")) (bytes "x0" ∷ []) []
+    ∷ quiet start ∷ quiet (advance None 200)
+    ∷ quiet (fetch (op 17 15 FloatingPoint false false (bytes "add x1") (Some
+    (bytes "ffffffffffffffffffffffffffffffffffffffffffffffffffffffffffffffff")) None (bytes "x0" ∷ []) [] 206) 200)
+    ∷ quiet start ∷ quiet (advance None 200)
+    ∷ quiet (fetch (op 18 0 Divide false false (bytes "mul x5") (Some []) None (bytes "x0" ∷ []) [] 482) 200)
+    ∷ shown start ∷ quiet (advance None 200)
+    ∷ quiet (fetch (op 19 12 Alu false false (bytes "jal x8") None (Some (bytes "shown")) (bytes "x0" ∷ []) [] 836) 200)
+    ∷ quiet start ∷ quiet (advance None 200)
+    ∷ quiet (fetch (op 20 9223372036854775808 Unknown false false (bytes "fadd x1") None (Some (bytes "shown")) (bytes "x0" ∷ []) []
     1) 200)
-    ∷ quiet start ∷ quiet (advance none 200)
-    ∷ quiet (fetch (op 21 13 Alu false false [] (some []) (some (bytes "x1")) (bytes "x33" ∷ bytes "h.0" ∷ bytes "x12" ∷ bytes "x16"
+    ∷ quiet start ∷ quiet (advance None 200)
+    ∷ quiet (fetch (op 21 13 Alu false false [] (Some []) (Some (bytes "x1")) (bytes "x33" ∷ bytes "h.0" ∷ bytes "x12" ∷ bytes "x16"
     ∷ []) (bytes "x1" ∷ bytes "x28" ∷ []) 414) 200)
-    ∷ quiet start ∷ quiet (advance none 200)
-    ∷ quiet start ∷ shown (advance none 200)
-    ∷ quiet start ∷ quiet (advance none 200)
-    ∷ quiet start ∷ quiet (advance none 200)
-    ∷ quiet start ∷ quiet (advance none 200)
-    ∷ quiet start ∷ shown (advance none 200)
-    ∷ quiet start ∷ quiet (advance none 200)
-    ∷ quiet start ∷ quiet (advance none 199) ∷ quiet (advance none 200)
-    ∷ shown start ∷ quiet (advance none 200)
-    ∷ quiet start ∷ shown (advance none 200)
-    ∷ quiet start ∷ quiet (advance none 200)
-    ∷ quiet start ∷ quiet (advance none 200)
-    ∷ quiet start ∷ quiet (advance none 200)
-    ∷ quiet start ∷ quiet (advance none 200)
-    ∷ quiet start ∷ quiet (advance none 199)
+    ∷ quiet start ∷ quiet (advance None 200)
+    ∷ quiet start ∷ shown (advance None 200)
+    ∷ quiet start ∷ quiet (advance None 200)
+    ∷ quiet start ∷ quiet (advance None 200)
+    ∷ quiet start ∷ quiet (advance None 200)
+    ∷ quiet start ∷ shown (advance None 200)
+    ∷ quiet start ∷ quiet (advance None 200)
+    ∷ quiet start ∷ quiet (advance None 199) ∷ quiet (advance None 200)
+    ∷ shown start ∷ quiet (advance None 200)
+    ∷ quiet start ∷ shown (advance None 200)
+    ∷ quiet start ∷ quiet (advance None 200)
+    ∷ quiet start ∷ quiet (advance None 200)
+    ∷ quiet start ∷ quiet (advance None 200)
+    ∷ quiet start ∷ quiet (advance None 200)
+    ∷ quiet start ∷ quiet (advance None 199)
     ∷ rest ∷ []
 
 abbrev numbers : List ℕ

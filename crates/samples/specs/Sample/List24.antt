@@ -1,6 +1,5 @@
 -- List 24 of the sample, from seed 2089. Made by the harness: see docs/SAMPLES.md.
-use Rattle.std.specs.Prelude.{ℕ, true, false, List, [], ◌∷◌}
-use Rattle.std.proofs.Math.Option.{none, some}
+use Rattle.std.specs.Prelude.{ℕ, true, false, List, [], ◌∷◌, None, Some}
 use Rattle.laws.specs.Texts.{bytes}
 use Rattle.capability.specs.declared.PipelineInstructionClass.TheVariants.{
   Alu,
@@ -55,63 +54,63 @@ use Rattle.capability.specs.declared.PipelineStageRole.TheVariants as role
 
 abbrev shape : PipelineShape
 shape =
-    pipeline_shape (role.Memory ∷ role.Memory ∷ role.Decode ∷ role.Execute ∷ role.Commit ∷ role.Decode ∷ []) (some 4) (timing 3 0 2 1
+    pipeline_shape (role.Memory ∷ role.Memory ∷ role.Decode ∷ role.Execute ∷ role.Commit ∷ role.Decode ∷ []) (Some 4) (timing 3 0 2 1
     1 0 1) (unit_spec (bytes "MUL") (Divide ∷ Store ∷ Multiply ∷ Store ∷ System ∷ []) Branch 3 ∷ []) 2
 
 abbrev steps : List Step
 steps =
     shown (overlap true)
-    ∷ shown start ∷ shown (advance (some 160) 406) ∷ shown (view trace_count)
-    ∷ shown (fetch (op 160 9 Branch true false (bytes "add x6") (some (bytes "page fault")) none (bytes "x1" ∷ bytes "x1" ∷
+    ∷ shown start ∷ shown (advance (Some 160) 406) ∷ shown (view trace_count)
+    ∷ shown (fetch (op 160 9 Branch true false (bytes "add x6") (Some (bytes "page fault")) None (bytes "x1" ∷ bytes "x1" ∷
     bytes "x1" ∷ bytes "x1" ∷ bytes "x0" ∷ bytes "x1" ∷ bytes "x0" ∷ bytes "x2" ∷ []) [] 613) 407) ∷ shown (fault
     (bytes "wwwwwwwwwwwwwwwwwwwwwwwwwwwwwwwwwwwwwwwwwwwwwwwwwwwwwwwwwwwwwwww")) ∷ shown (redirect 20)
-    ∷ shown start ∷ shown (text status_message 0) ∷ shown (view (unit 0)) ∷ shown (advance none 400) ∷ shown (text (slot_text
+    ∷ shown start ∷ shown (text status_message 0) ∷ shown (view (unit 0)) ∷ shown (advance None 400) ∷ shown (text (slot_text
     (in_unit 0) (write 0)) 0) ∷ shown (capacity 0 4)
-    ∷ shown (fetch (op 20 0 Alu false false (bytes "sub x5") none none [] [] 545) 400)
+    ∷ shown (fetch (op 20 0 Alu false false (bytes "sub x5") None None [] [] 545) 400)
     ∷ shown start ∷ shown (text (station_label 0) 4) ∷ shown (text (rename_register 0) 1) ∷ shown (view (queued 0)) ∷ shown (text
     (unit_name 1) 1)
-    ∷ shown (fetch (op 24 12 Multiply false false (bytes "sub x5") (some
-    (bytes "zzzzzzzzzzzzzzzzzzzzzzzzzzzzzzzzzzzzzzzzzzzzzzzzzzzzzzzzzzzzzzzzz")) (some (bytes "x0")) (bytes "x0" ∷ bytes " x 1" ∷
-    bytes "x0" ∷ []) (bytes "x0" ∷ bytes "x1" ∷ []) 915) 400) ∷ shown (advance none 400)
-    ∷ shown (fetch (op 24 0 FloatingPoint false false (bytes "add                                                             ") none
-    (some (bytes "sixteen-bytes-ok")) (bytes "x0" ∷ bytes "x1" ∷ bytes "x1" ∷ bytes "rflags" ∷ []) (bytes "x1" ∷ bytes "x1" ∷ [])
+    ∷ shown (fetch (op 24 12 Multiply false false (bytes "sub x5") (Some
+    (bytes "zzzzzzzzzzzzzzzzzzzzzzzzzzzzzzzzzzzzzzzzzzzzzzzzzzzzzzzzzzzzzzzzz")) (Some (bytes "x0")) (bytes "x0" ∷ bytes " x 1" ∷
+    bytes "x0" ∷ []) (bytes "x0" ∷ bytes "x1" ∷ []) 915) 400) ∷ shown (advance None 400)
+    ∷ shown (fetch (op 24 0 FloatingPoint false false (bytes "add                                                             ") None
+    (Some (bytes "sixteen-bytes-ok")) (bytes "x0" ∷ bytes "x1" ∷ bytes "x1" ∷ bytes "rflags" ∷ []) (bytes "x1" ∷ bytes "x1" ∷ [])
     466) 400)
-    ∷ shown (fetch (op 18446744073709551615 1 Divide false false (bytes "jal x4") none (some []) (bytes "x0" ∷ bytes "x1" ∷
+    ∷ shown (fetch (op 18446744073709551615 1 Divide false false (bytes "jal x4") None (Some []) (bytes "x0" ∷ bytes "x1" ∷
     bytes "x0" ∷ bytes "a.0" ∷ bytes "x0" ∷ bytes "x1" ∷ bytes "x2" ∷ bytes "x0" ∷ bytes "x0" ∷ []) (bytes "x1" ∷ []) 55) 400)
-    ∷ shown start ∷ shown (advance none 400)
-    ∷ shown (fetch (op 28 5 Jump true true (bytes "nop x6") (some
-    (bytes "ffffffffffffffffffffffffffffffffffffffffffffffffffffffffffffffff")) (some (bytes "x0")) (bytes "x2" ∷ []) (bytes "x0" ∷
+    ∷ shown start ∷ shown (advance None 400)
+    ∷ shown (fetch (op 28 5 Jump true true (bytes "nop x6") (Some
+    (bytes "ffffffffffffffffffffffffffffffffffffffffffffffffffffffffffffffff")) (Some (bytes "x0")) (bytes "x2" ∷ []) (bytes "x0" ∷
     []) 532) 400) ∷ shown (capacity 0 3) ∷ shown halt ∷ shown (cell 1 0 400)
-    ∷ shown start ∷ shown retire ∷ shown (retry (bytes "waiting")) ∷ shown (text (row_disassembly 3) 0) ∷ shown (advance none 400) ∷
+    ∷ shown start ∷ shown retire ∷ shown (retry (bytes "waiting")) ∷ shown (text (row_disassembly 3) 0) ∷ shown (advance None 400) ∷
     shown (text (trace_detail 0) 0)
     ∷ shown start ∷ shown (cell 0 1 400) ∷ shown (redirect 72)
-    ∷ shown start ∷ shown (view (stage 2)) ∷ shown (overlap true) ∷ shown retire ∷ shown (advance none 400) ∷ shown (view (unit 2)) ∷
+    ∷ shown start ∷ shown (view (stage 2)) ∷ shown (overlap true) ∷ shown retire ∷ shown (advance None 400) ∷ shown (view (unit 2)) ∷
     shown (fault (bytes "waiting")) ∷ shown (reset 120 400)
     ∷ shown start ∷ shown (view buffer_capacity)
-    ∷ shown (fetch (op 120 12 Alu false false (97 ∷ 98 ∷ 127 ∷ []) (some (255 ∷ [])) (some (bytes "shown")) (bytes "x2" ∷ bytes "x2"
-    ∷ bytes "x2" ∷ bytes "x1" ∷ []) (bytes "x2" ∷ bytes "x1" ∷ bytes "x1" ∷ []) 609) 400) ∷ shown (advance none 400) ∷ shown (overlap
+    ∷ shown (fetch (op 120 12 Alu false false (97 ∷ 98 ∷ 127 ∷ []) (Some (255 ∷ [])) (Some (bytes "shown")) (bytes "x2" ∷ bytes "x2"
+    ∷ bytes "x2" ∷ bytes "x1" ∷ []) (bytes "x2" ∷ bytes "x1" ∷ bytes "x1" ∷ []) 609) 400) ∷ shown (advance None 400) ∷ shown (overlap
     false) ∷ shown (capacity 1 3)
-    ∷ shown (fetch (op 18446744073709551615 0 Branch true false (bytes "add x4") none none (bytes "x1" ∷ bytes "x1" ∷ bytes "x2" ∷
+    ∷ shown (fetch (op 18446744073709551615 0 Branch true false (bytes "add x4") None None (bytes "x1" ∷ bytes "x1" ∷ bytes "x2" ∷
     bytes "x0" ∷ bytes "x0" ∷ bytes "x1" ∷ []) (bytes "x0" ∷ bytes "x2" ∷ []) 1) 400)
-    ∷ shown start ∷ shown (advance none 400)
-    ∷ shown (fetch (op 3 0 Branch true false (bytes "? x9") none (some (bytes "sixteen-bytes-ok")) (bytes "x1" ∷
+    ∷ shown start ∷ shown (advance None 400)
+    ∷ shown (fetch (op 3 0 Branch true false (bytes "? x9") None (Some (bytes "sixteen-bytes-ok")) (bytes "x1" ∷
     bytes "sixteen-bytes-ok" ∷ bytes "x0" ∷ bytes "x2" ∷ bytes "x0" ∷ bytes "x0" ∷ bytes "x0" ∷ bytes "x1" ∷ []) (bytes "x2" ∷ [])
     26) 400)
-    ∷ shown start ∷ shown (advance none 400)
-    ∷ shown start ∷ shown (advance none 400) ∷ shown (text (operand_register 2 3) 0) ∷ shown (text status_message 0)
-    ∷ shown start ∷ shown (cell 0 1 400) ∷ shown (advance none 51) ∷ shown (advance none 400) ∷ shown (advance (some 28) 401)
+    ∷ shown start ∷ shown (advance None 400)
+    ∷ shown start ∷ shown (advance None 400) ∷ shown (text (operand_register 2 3) 0) ∷ shown (text status_message 0)
+    ∷ shown start ∷ shown (cell 0 1 400) ∷ shown (advance None 51) ∷ shown (advance None 400) ∷ shown (advance (Some 28) 401)
     ∷ shown start ∷ shown (text (stage_name 4) 2) ∷ shown retire
-    ∷ shown (fetch (op 3 0 Unknown false false (bytes "sw x7") none (some (31 ∷ [])) (bytes "b.0" ∷ bytes "x0" ∷ bytes "x2" ∷ [])
+    ∷ shown (fetch (op 3 0 Unknown false false (bytes "sw x7") None (Some (31 ∷ [])) (bytes "b.0" ∷ bytes "x0" ∷ bytes "x2" ∷ [])
     (bytes "x0" ∷ []) 811) 400) ∷ shown (resolve 3) ∷ shown (view (trace 0)) ∷ shown retire ∷ shown (view (stage
-    18446744073709551615)) ∷ shown (view buffer_capacity) ∷ shown (resolve 224) ∷ shown (advance (some 224) 400)
-    ∷ shown (fetch (op 224 11 Unknown false false (bytes "sub x1") none none [] [] 443) 400)
-    ∷ shown start ∷ shown (advance none 400)
-    ∷ shown start ∷ shown (advance none 400) ∷ shown (capacity 0 3)
-    ∷ shown start ∷ shown (advance none 399) ∷ shown (advance none 400)
-    ∷ shown (fetch (op 228 0 FloatingPoint false false (34 ∷ 113 ∷ 34 ∷ 32 ∷ 120 ∷ 50 ∷ []) none (some []) [] (bytes "x2" ∷
+    18446744073709551615)) ∷ shown (view buffer_capacity) ∷ shown (resolve 224) ∷ shown (advance (Some 224) 400)
+    ∷ shown (fetch (op 224 11 Unknown false false (bytes "sub x1") None None [] [] 443) 400)
+    ∷ shown start ∷ shown (advance None 400)
+    ∷ shown start ∷ shown (advance None 400) ∷ shown (capacity 0 3)
+    ∷ shown start ∷ shown (advance None 399) ∷ shown (advance None 400)
+    ∷ shown (fetch (op 228 0 FloatingPoint false false (34 ∷ 113 ∷ 34 ∷ 32 ∷ 120 ∷ 50 ∷ []) None (Some []) [] (bytes "x2" ∷
     bytes "x2" ∷ (97 ∷ 98 ∷ 127 ∷ []) ∷ []) 854) 400)
-    ∷ shown start ∷ shown (advance (some 112) 400) ∷ shown (capacity 0 0)
-    ∷ shown start ∷ shown (capacity 0 2) ∷ shown (retry (10 ∷ [])) ∷ shown (capacity 0 3) ∷ shown retire ∷ shown (advance none 408)
+    ∷ shown start ∷ shown (advance (Some 112) 400) ∷ shown (capacity 0 0)
+    ∷ shown start ∷ shown (capacity 0 2) ∷ shown (retry (10 ∷ [])) ∷ shown (capacity 0 3) ∷ shown retire ∷ shown (advance None 408)
     ∷ rest ∷ []
 
 abbrev numbers : List ℕ

@@ -1,6 +1,5 @@
 -- List 25 of the sample, from seed 1051. Made by the harness: see docs/SAMPLES.md.
-use Rattle.std.specs.Prelude.{ℕ, true, false, List, [], ◌∷◌}
-use Rattle.std.proofs.Math.Option.{none, some}
+use Rattle.std.specs.Prelude.{ℕ, true, false, List, [], ◌∷◌, None, Some}
 use Rattle.laws.specs.Texts.{bytes}
 use Rattle.capability.specs.declared.PipelineInstructionClass.TheVariants.{
   Alu,
@@ -21,130 +20,130 @@ use Rattle.capability.specs.declared.PipelineStageRole.TheVariants as role
 
 abbrev shape : PipelineShape
 shape =
-    pipeline_shape (role.Commit ∷ role.Fetch ∷ role.Issue ∷ role.Decode ∷ role.Execute ∷ []) (some 4) (timing 0 2 1 1 0 8 0)
+    pipeline_shape (role.Commit ∷ role.Fetch ∷ role.Issue ∷ role.Decode ∷ role.Execute ∷ []) (Some 4) (timing 0 2 1 1 0 8 0)
     (unit_spec (bytes "FPU") [] System 5 ∷ []) 1
 
 abbrev steps : List Step
 steps =
     shown (overlap true)
-    ∷ shown start ∷ shown (advance none 200)
-    ∷ shown (fetch (op 0 12 Load false true (bytes "fadd x1") none (some (bytes "x0")) (bytes "x1" ∷ bytes "x0" ∷ []) (bytes "x0" ∷
+    ∷ shown start ∷ shown (advance None 200)
+    ∷ shown (fetch (op 0 12 Load false true (bytes "fadd x1") None (Some (bytes "x0")) (bytes "x1" ∷ bytes "x0" ∷ []) (bytes "x0" ∷
     bytes "x2" ∷ []) 0) 200)
-    ∷ shown start ∷ shown (advance none 200)
-    ∷ shown (fetch (op 4 12 Load false false (bytes "sw x9") none none (bytes " x 1" ∷ bytes "x2" ∷ []) [] 214) 199)
-    ∷ shown (fetch (op 4 3 System true false (bytes "? x3") none (some (97 ∷ 98 ∷ 127 ∷ [])) (bytes "x2" ∷ bytes "x0" ∷
+    ∷ shown start ∷ shown (advance None 200)
+    ∷ shown (fetch (op 4 12 Load false false (bytes "sw x9") None None (bytes " x 1" ∷ bytes "x2" ∷ []) [] 214) 199)
+    ∷ shown (fetch (op 4 3 System true false (bytes "? x3") None (Some (97 ∷ 98 ∷ 127 ∷ [])) (bytes "x2" ∷ bytes "x0" ∷
     bytes "sixteen-bytes-ok" ∷ bytes "x0" ∷ bytes "x3" ∷ bytes "x1" ∷ bytes "x1" ∷ bytes "zzzzzzzzzzzzzzzzz" ∷ bytes "x0" ∷ [])
     (bytes "x0" ∷ []) 300) 200)
-    ∷ shown (fetch (op 4 10 Store false false (bytes "ecall x2") none (some (bytes "x0")) (bytes "x1" ∷ bytes "x3" ∷ []) (bytes "x0"
+    ∷ shown (fetch (op 4 10 Store false false (bytes "ecall x2") None (Some (bytes "x0")) (bytes "x1" ∷ bytes "x3" ∷ []) (bytes "x0"
     ∷ bytes "x1" ∷ []) 551) 200)
-    ∷ shown start ∷ shown (advance none 200)
-    ∷ shown (fetch (op 8 1 Jump true false (32 ∷ 32 ∷ 34 ∷ 113 ∷ 34 ∷ 32 ∷ 32 ∷ 120 ∷ 49 ∷ 32 ∷ []) none (some (bytes "shown"))
+    ∷ shown start ∷ shown (advance None 200)
+    ∷ shown (fetch (op 8 1 Jump true false (32 ∷ 32 ∷ 34 ∷ 113 ∷ 34 ∷ 32 ∷ 32 ∷ 120 ∷ 49 ∷ 32 ∷ []) None (Some (bytes "shown"))
     (bytes " x 1" ∷ []) [] 374) 200)
-    ∷ shown start ∷ shown (advance none 200)
-    ∷ shown (fetch (op 12 18446744073709551614 Multiply false false (bytes "mul x4") none (some (bytes "rflags")) (bytes "x3" ∷
+    ∷ shown start ∷ shown (advance None 200)
+    ∷ shown (fetch (op 12 18446744073709551614 Multiply false false (bytes "mul x4") None (Some (bytes "rflags")) (bytes "x3" ∷
     bytes "x0" ∷ bytes "x1" ∷ []) (bytes "rflags" ∷ bytes "x2" ∷ bytes "x2" ∷ []) 278) 200)
-    ∷ shown start ∷ shown (advance none 200)
-    ∷ shown (fetch (op 16 0 FloatingPoint false false (bytes "add x3") (some (bytes "page fault")) none (bytes "x1" ∷ bytes "x1" ∷
+    ∷ shown start ∷ shown (advance None 200)
+    ∷ shown (fetch (op 16 0 FloatingPoint false false (bytes "add x3") (Some (bytes "page fault")) None (bytes "x1" ∷ bytes "x1" ∷
     []) [] 881) 51)
-    ∷ shown (fetch (op 16 15 Unknown false false (bytes "div x9") none (some (bytes "x3")) (bytes "x2" ∷ bytes "x2" ∷ bytes "x0" ∷
+    ∷ shown (fetch (op 16 15 Unknown false false (bytes "div x9") None (Some (bytes "x3")) (bytes "x2" ∷ bytes "x2" ∷ bytes "x0" ∷
     []) (bytes "x3" ∷ bytes "x1" ∷ bytes "x3" ∷ []) 18446744073709551615) 200)
-    ∷ shown start ∷ shown (advance none 144) ∷ shown (advance none 200)
-    ∷ shown start ∷ shown retire ∷ shown (advance none 200)
-    ∷ shown (fetch (op 20 9223372036854775808 Branch true false (bytes "jal x0") (some
-    (bytes "ffffffffffffffffffffffffffffffffffffffffffffffffffffffffffffffff")) (some (bytes "x3")) (bytes "x3" ∷ bytes "x1" ∷
+    ∷ shown start ∷ shown (advance None 144) ∷ shown (advance None 200)
+    ∷ shown start ∷ shown retire ∷ shown (advance None 200)
+    ∷ shown (fetch (op 20 9223372036854775808 Branch true false (bytes "jal x0") (Some
+    (bytes "ffffffffffffffffffffffffffffffffffffffffffffffffffffffffffffffff")) (Some (bytes "x3")) (bytes "x3" ∷ bytes "x1" ∷
     bytes "x1" ∷ bytes "x1" ∷ []) (bytes "x3" ∷ bytes "x3" ∷ [] ∷ []) 133) 199)
-    ∷ shown (fetch (op 20 13 Alu false false (bytes "xor x5") (some (31 ∷ [])) none (bytes "x2" ∷ bytes "x2" ∷ bytes "x3" ∷
+    ∷ shown (fetch (op 20 13 Alu false false (bytes "xor x5") (Some (31 ∷ [])) None (bytes "x2" ∷ bytes "x2" ∷ bytes "x3" ∷
     bytes "x0" ∷ bytes "x1" ∷ bytes "x0" ∷ []) (bytes "x3" ∷ bytes "x2" ∷ bytes "x1" ∷ bytes "x2" ∷ bytes "x1" ∷ []) 872) 200)
-    ∷ shown (fetch (op 20 5 Store false false (bytes "add x7") none none [] (bytes "x2" ∷ bytes "x3" ∷ []) 1) 200)
-    ∷ shown start ∷ shown (advance (some 64) 200)
-    ∷ shown (fetch (op 64 18446744073709551615 Branch true false (bytes "xor x5") none (some []) (bytes "x0" ∷ bytes "x1" ∷ [])
+    ∷ shown (fetch (op 20 5 Store false false (bytes "add x7") None None [] (bytes "x2" ∷ bytes "x3" ∷ []) 1) 200)
+    ∷ shown start ∷ shown (advance (Some 64) 200)
+    ∷ shown (fetch (op 64 18446744073709551615 Branch true false (bytes "xor x5") None (Some []) (bytes "x0" ∷ bytes "x1" ∷ [])
     (bytes "x3" ∷ bytes "x0" ∷ []) 174) 200)
-    ∷ shown start ∷ shown (advance none 200)
-    ∷ shown (fetch (op 68 15 Alu false false (34 ∷ 113 ∷ 34 ∷ 32 ∷ 120 ∷ 55 ∷ []) none (some []) [] [] 175) 200)
-    ∷ shown start ∷ shown (advance none 200)
-    ∷ shown (fetch (op 1 5 Jump true false (bytes "sub x7") none (some (bytes "x2")) (bytes "x1" ∷ bytes "x2" ∷ bytes "x3" ∷
+    ∷ shown start ∷ shown (advance None 200)
+    ∷ shown (fetch (op 68 15 Alu false false (34 ∷ 113 ∷ 34 ∷ 32 ∷ 120 ∷ 55 ∷ []) None (Some []) [] [] 175) 200)
+    ∷ shown start ∷ shown (advance None 200)
+    ∷ shown (fetch (op 1 5 Jump true false (bytes "sub x7") None (Some (bytes "x2")) (bytes "x1" ∷ bytes "x2" ∷ bytes "x3" ∷
     bytes "x1" ∷ []) (bytes "x2" ∷ bytes "x1" ∷ []) 364) 200)
-    ∷ shown start ∷ shown retire ∷ shown (view (stage 6)) ∷ shown (advance none 199) ∷ shown (advance none 200)
-    ∷ shown (fetch (op 5 15 Unknown false false (bytes "xor x5") none (some (bytes "x3")) (bytes "x3" ∷ bytes "x2" ∷ bytes "x3" ∷
+    ∷ shown start ∷ shown retire ∷ shown (view (stage 6)) ∷ shown (advance None 199) ∷ shown (advance None 200)
+    ∷ shown (fetch (op 5 15 Unknown false false (bytes "xor x5") None (Some (bytes "x3")) (bytes "x3" ∷ bytes "x2" ∷ bytes "x3" ∷
     bytes "x2" ∷ []) (bytes "x3" ∷ bytes "x1" ∷ bytes "rflags" ∷ []) 18446744073709551615) 200)
-    ∷ shown start ∷ shown (advance (some 172) 200)
-    ∷ shown (fetch (op 172 0 Load false false (bytes "beq x1") none (some (bytes "shown")) (bytes "x1" ∷ bytes " x 1" ∷ [])
+    ∷ shown start ∷ shown (advance (Some 172) 200)
+    ∷ shown (fetch (op 172 0 Load false false (bytes "beq x1") None (Some (bytes "shown")) (bytes "x1" ∷ bytes " x 1" ∷ [])
     (bytes "x2" ∷ bytes "x1" ∷ []) 695) 200)
-    ∷ shown start ∷ shown (advance none 200)
-    ∷ shown (fetch (op 176 0 Multiply false false (bytes "nop x1") none (some (bytes "x2")) (bytes "x1" ∷ bytes "x1" ∷ [] ∷ [])
+    ∷ shown start ∷ shown (advance None 200)
+    ∷ shown (fetch (op 176 0 Multiply false false (bytes "nop x1") None (Some (bytes "x2")) (bytes "x1" ∷ bytes "x1" ∷ [] ∷ [])
     (bytes "x2" ∷ []) 226) 191)
-    ∷ shown (fetch (op 58 4 Branch false true (32 ∷ 126 ∷ 92 ∷ 34 ∷ []) none none (bytes "x0" ∷ []) [] 863) 200)
-    ∷ shown start ∷ shown (advance none 200)
-    ∷ shown (fetch (op 62 15 Jump true false (bytes "sw x2") (some
-    (bytes "zzzzzzzzzzzzzzzzzzzzzzzzzzzzzzzzzzzzzzzzzzzzzzzzzzzzzzzzzzzzzzzzz")) (some (bytes "zzzzzzzzzzzzzzzzz"))
+    ∷ shown (fetch (op 58 4 Branch false true (32 ∷ 126 ∷ 92 ∷ 34 ∷ []) None None (bytes "x0" ∷ []) [] 863) 200)
+    ∷ shown start ∷ shown (advance None 200)
+    ∷ shown (fetch (op 62 15 Jump true false (bytes "sw x2") (Some
+    (bytes "zzzzzzzzzzzzzzzzzzzzzzzzzzzzzzzzzzzzzzzzzzzzzzzzzzzzzzzzzzzzzzzzz")) (Some (bytes "zzzzzzzzzzzzzzzzz"))
     (bytes "sixteen-bytes-ok" ∷ bytes "x3" ∷ []) (bytes "x2" ∷ bytes "x3" ∷ [] ∷ []) 42) 200)
     ∷ shown start ∷ shown (resolve 68) ∷ shown (resolve 68) ∷ shown (resolve 172) ∷ shown retire
-    ∷ shown start ∷ shown (advance (some 172) 200)
-    ∷ shown (fetch (op 172 13 Divide false false (bytes "sub x6") none (some (bytes "x0")) (bytes "sixteen-bytes-ok" ∷ [])
+    ∷ shown start ∷ shown (advance (Some 172) 200)
+    ∷ shown (fetch (op 172 13 Divide false false (bytes "sub x6") None (Some (bytes "x0")) (bytes "sixteen-bytes-ok" ∷ [])
     (bytes "x0" ∷ []) 408) 200)
-    ∷ shown start ∷ shown (advance none 200)
-    ∷ shown (fetch (op 176 5 Alu false false (bytes "beq x1") none (some (bytes "x1")) (bytes "x2" ∷ bytes "x1" ∷ []) (bytes "x1" ∷
+    ∷ shown start ∷ shown (advance None 200)
+    ∷ shown (fetch (op 176 5 Alu false false (bytes "beq x1") None (Some (bytes "x1")) (bytes "x2" ∷ bytes "x1" ∷ []) (bytes "x1" ∷
     bytes "x1" ∷ []) 722) 200)
-    ∷ shown start ∷ shown (advance none 200)
-    ∷ shown (fetch (op 180 8 Alu false false (bytes "jal x1") (some
-    (bytes "ffffffffffffffffffffffffffffffffffffffffffffffffffffffffffffffff")) (some (bytes "x2")) (bytes "x3" ∷ bytes "x1" ∷
+    ∷ shown start ∷ shown (advance None 200)
+    ∷ shown (fetch (op 180 8 Alu false false (bytes "jal x1") (Some
+    (bytes "ffffffffffffffffffffffffffffffffffffffffffffffffffffffffffffffff")) (Some (bytes "x2")) (bytes "x3" ∷ bytes "x1" ∷
     bytes "x2" ∷ []) (bytes "x2" ∷ [] ∷ []) 18446744073709551615) 200)
-    ∷ shown start ∷ shown (advance none 200)
-    ∷ shown (fetch (op 184 2 Store false false (bytes "jal x5") none (some (bytes "x1")) (bytes "x3" ∷ bytes "x0" ∷ []) (bytes "x1" ∷
+    ∷ shown start ∷ shown (advance None 200)
+    ∷ shown (fetch (op 184 2 Store false false (bytes "jal x5") None (Some (bytes "x1")) (bytes "x3" ∷ bytes "x0" ∷ []) (bytes "x1" ∷
     []) 0) 200)
-    ∷ shown start ∷ shown (advance none 200)
-    ∷ shown (fetch (op 188 10 Store false true (bytes "jal x5") none (some (bytes "x2")) (bytes "x2" ∷ bytes "x0" ∷ [] ∷ bytes "x3" ∷
+    ∷ shown start ∷ shown (advance None 200)
+    ∷ shown (fetch (op 188 10 Store false true (bytes "jal x5") None (Some (bytes "x2")) (bytes "x2" ∷ bytes "x0" ∷ [] ∷ bytes "x3" ∷
     bytes "x3" ∷ bytes "x1" ∷ bytes "x1" ∷ bytes "x0" ∷ []) (bytes "x2" ∷ bytes "x2" ∷ bytes "x1" ∷ bytes "x2" ∷ []) 800) 200)
-    ∷ shown start ∷ shown (advance none 200)
-    ∷ shown (fetch (op 192 2 Branch true false (bytes "sub x9") none (some (bytes "x0")) (bytes "x3" ∷ bytes "x0" ∷ []) (bytes "x0" ∷
+    ∷ shown start ∷ shown (advance None 200)
+    ∷ shown (fetch (op 192 2 Branch true false (bytes "sub x9") None (Some (bytes "x0")) (bytes "x3" ∷ bytes "x0" ∷ []) (bytes "x0" ∷
     bytes "x0" ∷ []) 355) 200)
-    ∷ shown start ∷ shown retire ∷ shown (advance none 200)
-    ∷ shown (fetch (op 196 15 Unknown false true (32 ∷ 126 ∷ 92 ∷ 34 ∷ []) (some
-    (bytes "ffffffffffffffffffffffffffffffffffffffffffffffffffffffffffffffff")) (some (bytes "sixteen-bytes-ok")) (bytes "x0" ∷
+    ∷ shown start ∷ shown retire ∷ shown (advance None 200)
+    ∷ shown (fetch (op 196 15 Unknown false true (32 ∷ 126 ∷ 92 ∷ 34 ∷ []) (Some
+    (bytes "ffffffffffffffffffffffffffffffffffffffffffffffffffffffffffffffff")) (Some (bytes "sixteen-bytes-ok")) (bytes "x0" ∷
     bytes "x1" ∷ bytes "x1" ∷ bytes "x1" ∷ []) (bytes "sixteen-bytes-ok" ∷ bytes "x1" ∷ []) 79) 200)
-    ∷ shown start ∷ shown (resolve 180) ∷ shown retire ∷ shown (advance none 200)
-    ∷ shown start ∷ shown (advance none 200) ∷ shown (redirect 1)
-    ∷ shown start ∷ shown (advance none 200)
-    ∷ shown (fetch (op 1 15 Unknown false false (bytes "   ") none none [] [] 414) 199)
-    ∷ shown (fetch (op 1 0 Jump true false (bytes "div x4") none (some (bytes "shown")) (bytes "x0" ∷ bytes "x0" ∷ bytes "x2" ∷ [])
+    ∷ shown start ∷ shown (resolve 180) ∷ shown retire ∷ shown (advance None 200)
+    ∷ shown start ∷ shown (advance None 200) ∷ shown (redirect 1)
+    ∷ shown start ∷ shown (advance None 200)
+    ∷ shown (fetch (op 1 15 Unknown false false (bytes "   ") None None [] [] 414) 199)
+    ∷ shown (fetch (op 1 0 Jump true false (bytes "div x4") None (Some (bytes "shown")) (bytes "x0" ∷ bytes "x0" ∷ bytes "x2" ∷ [])
     (bytes "x3" ∷ bytes "x0" ∷ []) 653) 200)
-    ∷ shown start ∷ shown (advance none 200)
-    ∷ shown (fetch (op 5 6 FloatingPoint false false (bytes "beq x1") (some (bytes "page fault")) (some (bytes "sixteen-bytes-ok"))
+    ∷ shown start ∷ shown (advance None 200)
+    ∷ shown (fetch (op 5 6 FloatingPoint false false (bytes "beq x1") (Some (bytes "page fault")) (Some (bytes "sixteen-bytes-ok"))
     (bytes "x2" ∷ bytes "x2" ∷ []) [] 35) 200)
-    ∷ shown start ∷ shown (advance none 200)
-    ∷ shown (fetch (op 9 1 FloatingPoint false false [] none (some (bytes "rflags")) (bytes "x1" ∷ bytes "x3" ∷ bytes "x0" ∷
+    ∷ shown start ∷ shown (advance None 200)
+    ∷ shown (fetch (op 9 1 FloatingPoint false false [] None (Some (bytes "rflags")) (bytes "x1" ∷ bytes "x3" ∷ bytes "x0" ∷
     bytes "x0" ∷ bytes "x0" ∷ bytes "x3" ∷ bytes "x2" ∷ bytes "x3" ∷ []) (bytes "rflags" ∷ bytes "x1" ∷ bytes "x2" ∷ bytes "x3" ∷ [])
     371) 200)
-    ∷ shown start ∷ shown (advance none 200)
-    ∷ shown (fetch (op 13 8 System false false (bytes "nop x1") none (some (bytes "x2")) (bytes "x0" ∷ bytes "x0" ∷ bytes "a.0" ∷
+    ∷ shown start ∷ shown (advance None 200)
+    ∷ shown (fetch (op 13 8 System false false (bytes "nop x1") None (Some (bytes "x2")) (bytes "x0" ∷ bytes "x0" ∷ bytes "a.0" ∷
     bytes "x3" ∷ bytes "x2" ∷ bytes "x1" ∷ bytes "x1" ∷ bytes "b.0" ∷ []) (bytes "x2" ∷ bytes "rflags" ∷ bytes "x1" ∷ bytes "x2" ∷
     []) 901) 200)
-    ∷ shown start ∷ shown (advance none 200)
-    ∷ shown (fetch (op 17 0 Store false false (bytes "add x7") none (some []) (bytes "x0" ∷ bytes "x0" ∷ []) (bytes "x3" ∷ bytes "x3"
+    ∷ shown start ∷ shown (advance None 200)
+    ∷ shown (fetch (op 17 0 Store false false (bytes "add x7") None (Some []) (bytes "x0" ∷ bytes "x0" ∷ []) (bytes "x3" ∷ bytes "x3"
     ∷ []) 865) 200)
-    ∷ shown start ∷ shown (resolve 64) ∷ shown retire ∷ shown (advance (some 64) 200)
-    ∷ shown (fetch (op 25 1 Branch true false (bytes "beq x3") none (some (bytes "shown")) (bytes "x2" ∷ bytes "x1" ∷
+    ∷ shown start ∷ shown (resolve 64) ∷ shown retire ∷ shown (advance (Some 64) 200)
+    ∷ shown (fetch (op 25 1 Branch true false (bytes "beq x3") None (Some (bytes "shown")) (bytes "x2" ∷ bytes "x1" ∷
     bytes "sixteen-bytes-ok" ∷ []) (bytes "x0" ∷ bytes "x1" ∷ bytes "sixteen-bytes-ok" ∷ []) 568) 200)
-    ∷ shown start ∷ shown (advance none 200)
-    ∷ shown (fetch (op 29 3 Branch true false (bytes "add x6") none none (bytes "x2" ∷ [] ∷ []) [] 453) 200)
-    ∷ shown start ∷ shown (advance none 200)
-    ∷ shown start ∷ shown (advance none 200)
-    ∷ shown (fetch (op 33 14 Divide false false (bytes "fadd x9") (some []) (some (bytes "x2")) (bytes "x1" ∷ bytes "x1" ∷ [])
+    ∷ shown start ∷ shown (advance None 200)
+    ∷ shown (fetch (op 29 3 Branch true false (bytes "add x6") None None (bytes "x2" ∷ [] ∷ []) [] 453) 200)
+    ∷ shown start ∷ shown (advance None 200)
+    ∷ shown start ∷ shown (advance None 200)
+    ∷ shown (fetch (op 33 14 Divide false false (bytes "fadd x9") (Some []) (Some (bytes "x2")) (bytes "x1" ∷ bytes "x1" ∷ [])
     (bytes "x2" ∷ bytes "x2" ∷ bytes "x0" ∷ bytes "x1" ∷ []) 286) 200)
-    ∷ shown start ∷ shown (advance none 200)
-    ∷ shown (fetch (op 37 11 Alu false false (bytes "sw x2") none (some (bytes "sixteen-bytes-ok")) (bytes "x3" ∷ bytes "x2" ∷
+    ∷ shown start ∷ shown (advance None 200)
+    ∷ shown (fetch (op 37 11 Alu false false (bytes "sw x2") None (Some (bytes "sixteen-bytes-ok")) (bytes "x3" ∷ bytes "x2" ∷
     bytes "x0" ∷ []) (bytes "x1" ∷ bytes "x0" ∷ []) 18446744073709551614) 200)
-    ∷ shown start ∷ shown (resolve 148) ∷ shown retire ∷ shown (advance (some 148) 200)
-    ∷ shown (fetch (op 148 0 Jump true false (bytes "fadd x4") none (some (bytes "x0")) (bytes "x0" ∷ bytes "x3" ∷ bytes "x1" ∷
+    ∷ shown start ∷ shown (resolve 148) ∷ shown retire ∷ shown (advance (Some 148) 200)
+    ∷ shown (fetch (op 148 0 Jump true false (bytes "fadd x4") None (Some (bytes "x0")) (bytes "x0" ∷ bytes "x3" ∷ bytes "x1" ∷
     bytes "x2" ∷ bytes "sixteen-bytes-ok" ∷ bytes "x2" ∷ bytes "x1" ∷ bytes " x 1" ∷ []) (bytes "x0" ∷ bytes "x1" ∷ bytes "x3" ∷
     bytes "x0" ∷ []) 153) 200)
-    ∷ shown start ∷ shown (advance none 200)
-    ∷ shown (fetch (op 152 14 Store false false (bytes "div x0") (some (bytes "page fault")) (some (bytes "x1")) (bytes "x0" ∷
+    ∷ shown start ∷ shown (advance None 200)
+    ∷ shown (fetch (op 152 14 Store false false (bytes "div x0") (Some (bytes "page fault")) (Some (bytes "x1")) (bytes "x0" ∷
     bytes "x2" ∷ []) (bytes "x1" ∷ bytes "x3" ∷ bytes "x3" ∷ []) 603) 200)
-    ∷ shown start ∷ shown (advance none 200)
-    ∷ shown (fetch (op 0 2 Jump true false (32 ∷ 126 ∷ 92 ∷ 34 ∷ []) none (some []) ([] ∷ bytes "x0" ∷ bytes "x1" ∷ []) (bytes "x1" ∷
+    ∷ shown start ∷ shown (advance None 200)
+    ∷ shown (fetch (op 0 2 Jump true false (32 ∷ 126 ∷ 92 ∷ 34 ∷ []) None (Some []) ([] ∷ bytes "x0" ∷ bytes "x1" ∷ []) (bytes "x1" ∷
     bytes "x3" ∷ []) 18446744073709551615) 200)
-    ∷ shown start ∷ shown (advance none 200)
+    ∷ shown start ∷ shown (advance None 200)
     ∷ rest ∷ []
 
 abbrev numbers : List ℕ

@@ -1,6 +1,5 @@
 -- List 26 of the sample, from seed 871. Made by the harness: see docs/SAMPLES.md.
-use Rattle.std.specs.Prelude.{ℕ, true, false, List, [], ◌∷◌}
-use Rattle.std.proofs.Math.Option.{none, some}
+use Rattle.std.specs.Prelude.{ℕ, true, false, List, [], ◌∷◌, None, Some}
 use Rattle.laws.specs.Texts.{bytes}
 use Rattle.capability.specs.declared.PipelineInstructionClass.TheVariants.{Alu, Multiply, Divide, Jump, FloatingPoint, Unknown}
 use Rattle.model.specs.Config.{timing, unit_spec, PipelineShape, pipeline_shape}
@@ -12,100 +11,100 @@ use Rattle.capability.specs.declared.PipelineStageRole.TheVariants as role
 abbrev shape : PipelineShape
 shape =
     pipeline_shape (role.Decode ∷ role.Writeback ∷ role.Execute ∷ role.Other ∷ role.Commit ∷ role.Decode ∷ role.Memory ∷ role.Decode
-    ∷ role.Memory ∷ role.Other ∷ role.Memory ∷ role.Fetch ∷ []) none (timing 0 0 14 0 0 14 14) (unit_spec (bytes "ALU") [] Jump 5 ∷
+    ∷ role.Memory ∷ role.Other ∷ role.Memory ∷ role.Fetch ∷ []) None (timing 0 0 14 0 0 14 14) (unit_spec (bytes "ALU") [] Jump 5 ∷
     []) 1
 
 abbrev steps : List Step
 steps =
     shown (overlap true)
-    ∷ shown start ∷ shown (advance none 200)
-    ∷ shown (fetch (op 0 7 Divide false false (bytes "xor x7") (some []) (some (bytes "sixteen-bytes-ok")) (bytes "rflags" ∷ [] ∷
+    ∷ shown start ∷ shown (advance None 200)
+    ∷ shown (fetch (op 0 7 Divide false false (bytes "xor x7") (Some []) (Some (bytes "sixteen-bytes-ok")) (bytes "rflags" ∷ [] ∷
     bytes "x3" ∷ bytes "x4" ∷ bytes "x5" ∷ bytes "sixteen-bytes-ok" ∷ bytes "x4" ∷ bytes "x6" ∷ []) (bytes "sixteen-bytes-ok" ∷
     bytes "x4" ∷ bytes "sixteen-bytes-ok" ∷ bytes "rflags" ∷ []) 362) 200)
-    ∷ shown start ∷ shown (advance none 200)
-    ∷ shown (fetch (op 7 14 Alu false false (bytes "beq x0") none none (bytes "x6" ∷ bytes "x0" ∷ []) (bytes "x1" ∷ bytes "x5" ∷ [])
+    ∷ shown start ∷ shown (advance None 200)
+    ∷ shown (fetch (op 7 14 Alu false false (bytes "beq x0") None None (bytes "x6" ∷ bytes "x0" ∷ []) (bytes "x1" ∷ bytes "x5" ∷ [])
     73) 200)
-    ∷ shown start ∷ shown (advance none 200)
-    ∷ shown (fetch (op 21 5 Alu false false (bytes "add x3") (some (bytes "page fault")) (some (bytes "x6")) (bytes "x3" ∷ [])
+    ∷ shown start ∷ shown (advance None 200)
+    ∷ shown (fetch (op 21 5 Alu false false (bytes "add x3") (Some (bytes "page fault")) (Some (bytes "x6")) (bytes "x3" ∷ [])
     (bytes "x6" ∷ []) 9223372036854775808) 200)
-    ∷ shown start ∷ shown (advance none 200)
-    ∷ shown (fetch (op 18446744073709551614 9223372036854775808 Divide false false (34 ∷ 113 ∷ 34 ∷ 32 ∷ 120 ∷ 48 ∷ []) none (some
+    ∷ shown start ∷ shown (advance None 200)
+    ∷ shown (fetch (op 18446744073709551614 9223372036854775808 Divide false false (34 ∷ 113 ∷ 34 ∷ 32 ∷ 120 ∷ 48 ∷ []) None (Some
     (bytes "x5")) (bytes "sixteen-bytes-ok" ∷ bytes "x6" ∷ bytes "x2" ∷ bytes "x3" ∷ []) (bytes "x5" ∷ bytes "x0" ∷ []) 812) 204)
-    ∷ shown start ∷ shown (advance none 200)
-    ∷ shown (fetch (op 9223372036854775806 9223372036854775808 Unknown false false (bytes "sw x1") none (some (bytes "shown"))
+    ∷ shown start ∷ shown (advance None 200)
+    ∷ shown (fetch (op 9223372036854775806 9223372036854775808 Unknown false false (bytes "sw x1") None (Some (bytes "shown"))
     (bytes "x6" ∷ bytes "x2" ∷ bytes "x5" ∷ bytes "x4" ∷ []) (bytes "x3" ∷ bytes "x3" ∷ []) 533) 200)
-    ∷ shown start ∷ shown (advance none 200)
-    ∷ shown start ∷ shown (advance none 200)
-    ∷ shown start ∷ shown (advance none 200)
-    ∷ shown start ∷ shown (advance none 200)
-    ∷ shown start ∷ shown (advance none 200)
-    ∷ shown start ∷ shown (advance none 200)
-    ∷ shown start ∷ shown (advance none 200)
-    ∷ shown start ∷ shown (advance none 200)
-    ∷ shown start ∷ shown (advance none 200)
-    ∷ shown start ∷ shown (advance none 200)
-    ∷ shown start ∷ shown (advance (some 40) 200)
-    ∷ shown (fetch (op 40 2 FloatingPoint false false (bytes "mul x4") none (some (bytes "x6")) (bytes "x3" ∷ bytes "x2" ∷ bytes "x6"
+    ∷ shown start ∷ shown (advance None 200)
+    ∷ shown start ∷ shown (advance None 200)
+    ∷ shown start ∷ shown (advance None 200)
+    ∷ shown start ∷ shown (advance None 200)
+    ∷ shown start ∷ shown (advance None 200)
+    ∷ shown start ∷ shown (advance None 200)
+    ∷ shown start ∷ shown (advance None 200)
+    ∷ shown start ∷ shown (advance None 200)
+    ∷ shown start ∷ shown (advance None 200)
+    ∷ shown start ∷ shown (advance None 200)
+    ∷ shown start ∷ shown (advance (Some 40) 200)
+    ∷ shown (fetch (op 40 2 FloatingPoint false false (bytes "mul x4") None (Some (bytes "x6")) (bytes "x3" ∷ bytes "x2" ∷ bytes "x6"
     ∷ bytes "x2" ∷ []) (bytes "x6" ∷ [] ∷ bytes "x3" ∷ []) 227) 200)
-    ∷ shown start ∷ shown (advance none 200)
-    ∷ shown (fetch (op 42 14 Multiply false false (bytes "xor x3") (some []) none (bytes "x0" ∷ bytes "x4" ∷ bytes "x6" ∷ bytes "x4"
+    ∷ shown start ∷ shown (advance None 200)
+    ∷ shown (fetch (op 42 14 Multiply false false (bytes "xor x3") (Some []) None (bytes "x0" ∷ bytes "x4" ∷ bytes "x6" ∷ bytes "x4"
     ∷ []) (bytes "x4" ∷ bytes "x0" ∷ bytes "x3" ∷ []) 670) 200)
-    ∷ shown start ∷ shown (advance none 200)
-    ∷ shown start ∷ shown (advance none 200)
-    ∷ shown start ∷ shown retire ∷ shown (advance none 200)
-    ∷ shown start ∷ shown retire ∷ shown (advance none 200)
-    ∷ shown start ∷ shown retire ∷ shown (advance none 200)
-    ∷ shown (fetch (op 56 18446744073709551615 Unknown false false (bytes "mul x4") (some []) none (bytes "x1" ∷ bytes "x1" ∷
+    ∷ shown start ∷ shown (advance None 200)
+    ∷ shown start ∷ shown (advance None 200)
+    ∷ shown start ∷ shown retire ∷ shown (advance None 200)
+    ∷ shown start ∷ shown retire ∷ shown (advance None 200)
+    ∷ shown start ∷ shown retire ∷ shown (advance None 200)
+    ∷ shown (fetch (op 56 18446744073709551615 Unknown false false (bytes "mul x4") (Some []) None (bytes "x1" ∷ bytes "x1" ∷
     bytes "x6" ∷ bytes "x1" ∷ []) ([] ∷ bytes "x3" ∷ bytes "x5" ∷ []) 891) 200)
-    ∷ shown start ∷ shown (advance none 200)
-    ∷ shown start ∷ shown (advance (some 216) 200)
-    ∷ shown (fetch (op 216 1 Multiply false false (bytes "ecall x6") none (some (bytes "sixteen-bytes-ok")) (bytes "x4" ∷ bytes "a.0"
+    ∷ shown start ∷ shown (advance None 200)
+    ∷ shown start ∷ shown (advance (Some 216) 200)
+    ∷ shown (fetch (op 216 1 Multiply false false (bytes "ecall x6") None (Some (bytes "sixteen-bytes-ok")) (bytes "x4" ∷ bytes "a.0"
     ∷ []) (bytes "x2" ∷ []) 935) 200)
-    ∷ shown start ∷ shown (advance none 200)
-    ∷ shown (fetch (op 217 6 Alu false false (bytes "aaaaaaaaaaaaaaaaaaaaaaaaaaaaaaaaaaaaaaaaaaaaaaaaaaaaaaaaaaaaaaaa") none (some
+    ∷ shown start ∷ shown (advance None 200)
+    ∷ shown (fetch (op 217 6 Alu false false (bytes "aaaaaaaaaaaaaaaaaaaaaaaaaaaaaaaaaaaaaaaaaaaaaaaaaaaaaaaaaaaaaaaa") None (Some
     (bytes "shown")) [] [] 824) 200)
-    ∷ shown start ∷ shown (advance none 200)
-    ∷ shown (fetch (op 223 1 Divide false true (bytes "ecall x1") none (some (bytes "sixteen-bytes-ok")) (bytes "x5" ∷ bytes "x1" ∷
+    ∷ shown start ∷ shown (advance None 200)
+    ∷ shown (fetch (op 223 1 Divide false true (bytes "ecall x1") None (Some (bytes "sixteen-bytes-ok")) (bytes "x5" ∷ bytes "x1" ∷
     bytes "x6" ∷ bytes "x3" ∷ []) (bytes "sixteen-bytes-ok" ∷ bytes "x0" ∷ []) 205) 200)
-    ∷ shown start ∷ shown (advance none 200)
-    ∷ shown (fetch (op 224 9 FloatingPoint false false (bytes "  add  x1 ") none (some (bytes "x0")) (bytes "rflags" ∷ bytes "x1" ∷
+    ∷ shown start ∷ shown (advance None 200)
+    ∷ shown (fetch (op 224 9 FloatingPoint false false (bytes "  add  x1 ") None (Some (bytes "x0")) (bytes "rflags" ∷ bytes "x1" ∷
     bytes "x5" ∷ bytes "x1" ∷ bytes "x5" ∷ bytes " x 1" ∷ bytes "x2" ∷ bytes "x1" ∷ []) (bytes "x0" ∷ bytes "x4" ∷ bytes "x2" ∷
     bytes "x6" ∷ []) 175) 200)
-    ∷ shown start ∷ shown (advance none 200)
-    ∷ shown (fetch (op 233 0 Multiply false false (bytes "jal x6") none (some (bytes "x3")) (bytes "sixteen-bytes-ok" ∷ bytes "x5" ∷
+    ∷ shown start ∷ shown (advance None 200)
+    ∷ shown (fetch (op 233 0 Multiply false false (bytes "jal x6") None (Some (bytes "x3")) (bytes "sixteen-bytes-ok" ∷ bytes "x5" ∷
     bytes "x1" ∷ []) (bytes "x3" ∷ bytes "x0" ∷ bytes "x0" ∷ []) 515) 200)
-    ∷ shown start ∷ shown (advance none 200)
-    ∷ shown start ∷ shown retire ∷ shown (advance none 200)
-    ∷ shown start ∷ shown (advance (some 220) 200)
-    ∷ shown (fetch (op 220 7 Divide false false (bytes "add x8") none (some (bytes "shown")) [] [] 869) 200)
-    ∷ shown start ∷ shown (advance none 200)
-    ∷ shown (fetch (op 58 4 Alu false false (bytes "xor x4") none none (bytes "x0" ∷ bytes "x4" ∷ []) [] 6) 200)
-    ∷ shown start ∷ shown (advance none 200)
-    ∷ shown (fetch (op 62 14 Alu false true (bytes "xor x8") (some []) (some (bytes "x5")) (bytes "x1" ∷ bytes "x5" ∷ []) (bytes "x5"
+    ∷ shown start ∷ shown (advance None 200)
+    ∷ shown start ∷ shown retire ∷ shown (advance None 200)
+    ∷ shown start ∷ shown (advance (Some 220) 200)
+    ∷ shown (fetch (op 220 7 Divide false false (bytes "add x8") None (Some (bytes "shown")) [] [] 869) 200)
+    ∷ shown start ∷ shown (advance None 200)
+    ∷ shown (fetch (op 58 4 Alu false false (bytes "xor x4") None None (bytes "x0" ∷ bytes "x4" ∷ []) [] 6) 200)
+    ∷ shown start ∷ shown (advance None 200)
+    ∷ shown (fetch (op 62 14 Alu false true (bytes "xor x8") (Some []) (Some (bytes "x5")) (bytes "x1" ∷ bytes "x5" ∷ []) (bytes "x5"
     ∷ bytes "x5" ∷ bytes "x0" ∷ []) 807) 200)
-    ∷ shown start ∷ shown (advance none 200)
-    ∷ shown (fetch (op 76 1 Alu false false (34 ∷ 113 ∷ 34 ∷ 32 ∷ 120 ∷ 51 ∷ []) (some
-    (bytes "ffffffffffffffffffffffffffffffffffffffffffffffffffffffffffffffff")) none (bytes "x3" ∷ []) (bytes "x4" ∷ []) 437) 200)
-    ∷ shown start ∷ shown (advance none 200)
-    ∷ shown start ∷ shown (advance none 200)
-    ∷ shown start ∷ shown (advance none 200)
-    ∷ shown start ∷ shown (advance none 200)
-    ∷ shown start ∷ shown (advance (some 8) 200)
-    ∷ shown (fetch (op 8 10 Unknown false false (bytes "xor x1") (some (bytes "page fault")) none (bytes "x5" ∷ []) [] 0) 200)
-    ∷ shown start ∷ shown (cell 0 0 200) ∷ shown retire ∷ shown (advance none 200)
-    ∷ shown start ∷ shown retire ∷ shown (advance none 200)
-    ∷ shown start ∷ shown (advance none 200)
-    ∷ shown (fetch (op 18 9223372036854775808 FloatingPoint false false (bytes "sw x3") none none (bytes "x4" ∷ bytes "x2" ∷
+    ∷ shown start ∷ shown (advance None 200)
+    ∷ shown (fetch (op 76 1 Alu false false (34 ∷ 113 ∷ 34 ∷ 32 ∷ 120 ∷ 51 ∷ []) (Some
+    (bytes "ffffffffffffffffffffffffffffffffffffffffffffffffffffffffffffffff")) None (bytes "x3" ∷ []) (bytes "x4" ∷ []) 437) 200)
+    ∷ shown start ∷ shown (advance None 200)
+    ∷ shown start ∷ shown (advance None 200)
+    ∷ shown start ∷ shown (advance None 200)
+    ∷ shown start ∷ shown (advance None 200)
+    ∷ shown start ∷ shown (advance (Some 8) 200)
+    ∷ shown (fetch (op 8 10 Unknown false false (bytes "xor x1") (Some (bytes "page fault")) None (bytes "x5" ∷ []) [] 0) 200)
+    ∷ shown start ∷ shown (cell 0 0 200) ∷ shown retire ∷ shown (advance None 200)
+    ∷ shown start ∷ shown retire ∷ shown (advance None 200)
+    ∷ shown start ∷ shown (advance None 200)
+    ∷ shown (fetch (op 18 9223372036854775808 FloatingPoint false false (bytes "sw x3") None None (bytes "x4" ∷ bytes "x2" ∷
     bytes "x4" ∷ []) [] 18446744073709551615) 200)
-    ∷ shown start ∷ shown (advance none 200)
-    ∷ shown (fetch (op 9223372036854775826 1 Alu false false (bytes "nop x3") none (some (bytes "shown")) [] [] 944) 200)
-    ∷ shown start ∷ shown retire ∷ shown (advance none 200)
-    ∷ shown (fetch (op 9223372036854775827 0 Alu false false (bytes "fadd x3") none none (bytes "x4" ∷ []) [] 676) 200) ∷ shown (text
+    ∷ shown start ∷ shown (advance None 200)
+    ∷ shown (fetch (op 9223372036854775826 1 Alu false false (bytes "nop x3") None (Some (bytes "shown")) [] [] 944) 200)
+    ∷ shown start ∷ shown retire ∷ shown (advance None 200)
+    ∷ shown (fetch (op 9223372036854775827 0 Alu false false (bytes "fadd x3") None None (bytes "x4" ∷ []) [] 676) 200) ∷ shown (text
     (unit_name 0) 200)
-    ∷ shown start ∷ shown (advance none 200)
-    ∷ shown (fetch (op 9223372036854775828 14 Alu false false (bytes "jal x6") none (some (bytes "shown")) (bytes "x4" ∷ bytes "x2" ∷
+    ∷ shown start ∷ shown (advance None 200)
+    ∷ shown (fetch (op 9223372036854775828 14 Alu false false (bytes "jal x6") None (Some (bytes "shown")) (bytes "x4" ∷ bytes "x2" ∷
     []) (bytes "x5" ∷ []) 1) 200)
-    ∷ shown start ∷ shown (advance none 200)
+    ∷ shown start ∷ shown (advance None 200)
     ∷ shown start
     ∷ rest ∷ []
 

@@ -1,6 +1,5 @@
 -- List 27 of the sample, from seed 1826. Made by the harness: see docs/SAMPLES.md.
-use Rattle.std.specs.Prelude.{ℕ, true, false, List, [], ◌∷◌}
-use Rattle.std.proofs.Math.Option.{none, some}
+use Rattle.std.specs.Prelude.{ℕ, true, false, List, [], ◌∷◌, None, Some}
 use Rattle.laws.specs.Texts.{bytes}
 use Rattle.capability.specs.declared.PipelineInstructionClass.TheVariants.{Alu, Divide, Load, Store, Branch, Unknown}
 use Rattle.model.specs.Config.{timing, unit_spec, PipelineShape, pipeline_shape}
@@ -46,76 +45,76 @@ use Rattle.capability.specs.declared.PipelineStageRole.TheVariants as role
 abbrev shape : PipelineShape
 shape =
     pipeline_shape (role.Execute ∷ role.Decode ∷ role.Fetch ∷ role.Decode ∷ role.Decode ∷ role.Other ∷ role.Memory ∷ role.Issue ∷
-    role.Fetch ∷ role.Memory ∷ []) (some 4) (timing 3 0 3 1 5 3 8) (unit_spec (bytes "A") [] Branch 1 ∷ []) 4
+    role.Fetch ∷ role.Memory ∷ []) (Some 4) (timing 3 0 3 1 5 3 8) (unit_spec (bytes "A") [] Branch 1 ∷ []) 4
 
 abbrev steps : List Step
 steps =
     shown (overlap true) ∷ shown (text (slot_text (in_station 1) (source 3)) 0) ∷ shown (text (station_label 0) 2) ∷ shown (reset 196
     800) ∷ shown (capacity 0 1)
-    ∷ shown start ∷ shown (text (stage_name 6) 0) ∷ shown (advance none 800) ∷ shown (view (unit 0))
-    ∷ shown (fetch (op 196 1 Alu false false (bytes "jal x5") (some (bytes "page fault")) (some (bytes "x2")) [] (bytes "x2" ∷ [])
-    459) 800) ∷ shown (advance none 800) ∷ shown (view rename_count) ∷ shown (text (cell_label 24) 0) ∷ shown (cell
+    ∷ shown start ∷ shown (text (stage_name 6) 0) ∷ shown (advance None 800) ∷ shown (view (unit 0))
+    ∷ shown (fetch (op 196 1 Alu false false (bytes "jal x5") (Some (bytes "page fault")) (Some (bytes "x2")) [] (bytes "x2" ∷ [])
+    459) 800) ∷ shown (advance None 800) ∷ shown (view rename_count) ∷ shown (text (cell_label 24) 0) ∷ shown (cell
     18446744073709551615 0 800)
-    ∷ shown start ∷ shown (advance none 800) ∷ shown (cell 1 0 800)
-    ∷ shown (fetch (op 200 8 Store false false (bytes "cccccccccccccccccccccccccccccccccccccccccccccccccccccccccccccccc") none none
+    ∷ shown start ∷ shown (advance None 800) ∷ shown (cell 1 0 800)
+    ∷ shown (fetch (op 200 8 Store false false (bytes "cccccccccccccccccccccccccccccccccccccccccccccccccccccccccccccccc") None None
     (bytes "x5" ∷ bytes "x3" ∷ bytes "x2" ∷ bytes "x1" ∷ bytes "x4" ∷ bytes "x4" ∷ bytes "x7" ∷ []) [] 18446744073709551614) 800) ∷
     shown (view (stage 2))
-    ∷ shown start ∷ shown (advance none 800) ∷ shown (retry (31 ∷ []))
-    ∷ shown start ∷ shown (cell 18446744073709551615 0 800) ∷ shown (advance none 800) ∷ shown (cell 1 2 800) ∷ shown (fault
+    ∷ shown start ∷ shown (advance None 800) ∷ shown (retry (31 ∷ []))
+    ∷ shown start ∷ shown (cell 18446744073709551615 0 800) ∷ shown (advance None 800) ∷ shown (cell 1 2 800) ∷ shown (fault
     (bytes "waiting"))
     ∷ shown start ∷ shown retire ∷ shown (view (buffer_entry 0)) ∷ shown (text (unit_name 0) 2) ∷ shown (capacity 0
     18446744073709551615) ∷ shown (overlap false) ∷ shown (text (slot_text (in_unit 0) destination) 0) ∷ shown (cell 0 1 800) ∷ shown
-    (text status_message 200) ∷ shown (advance none 800) ∷ shown halt ∷ shown (retry (bytes "waiting")) ∷ shown (text (cell_label 9)
+    (text status_message 200) ∷ shown (advance None 800) ∷ shown halt ∷ shown (retry (bytes "waiting")) ∷ shown (text (cell_label 9)
     0) ∷ shown retire
-    ∷ shown (fetch (op 204 18446744073709551614 Store false false (34 ∷ 113 ∷ 34 ∷ 32 ∷ 120 ∷ 48 ∷ []) (some []) (some []) ((31 ∷ [])
+    ∷ shown (fetch (op 204 18446744073709551614 Store false false (34 ∷ 113 ∷ 34 ∷ 32 ∷ 120 ∷ 48 ∷ []) (Some []) (Some []) ((31 ∷ [])
     ∷ bytes "x3" ∷ []) ((255 ∷ []) ∷ bytes "x5" ∷ bytes "x7" ∷ bytes "x7" ∷ bytes "x4" ∷ []) 472) 0)
     ∷ shown start ∷ shown (text (station_label 2) 0) ∷ shown (resolve 13240337085818291334)
-    ∷ shown (fetch (op 204 14 Divide false true (bytes "sw x5") none none (bytes "x0" ∷ bytes "x5" ∷ bytes "x2" ∷ bytes "x3" ∷
+    ∷ shown (fetch (op 204 14 Divide false true (bytes "sw x5") None None (bytes "x0" ∷ bytes "x5" ∷ bytes "x2" ∷ bytes "x3" ∷
     bytes "x4" ∷ bytes "x7" ∷ bytes "x7" ∷ bytes "x4" ∷ bytes "x0" ∷ []) (bytes "x2" ∷ bytes "x2" ∷ bytes "x2" ∷ bytes "x2" ∷ (31 ∷
-    []) ∷ []) 834) 800) ∷ shown (text (stage_name 3) 200) ∷ shown (advance none 800) ∷ shown (capacity 0 2)
-    ∷ shown start ∷ shown (advance none 800)
-    ∷ shown start ∷ shown (view enabled) ∷ shown (advance none 800)
-    ∷ shown start ∷ shown (advance none 800) ∷ shown (reset 208 800)
+    []) ∷ []) 834) 800) ∷ shown (text (stage_name 3) 200) ∷ shown (advance None 800) ∷ shown (capacity 0 2)
+    ∷ shown start ∷ shown (advance None 800)
+    ∷ shown start ∷ shown (view enabled) ∷ shown (advance None 800)
+    ∷ shown start ∷ shown (advance None 800) ∷ shown (reset 208 800)
     ∷ shown start
-    ∷ shown start ∷ shown (advance none 800) ∷ shown (capacity 2 3) ∷ shown (retry
+    ∷ shown start ∷ shown (advance None 800) ∷ shown (capacity 2 3) ∷ shown (retry
     (bytes "zzzzzzzzzzzzzzzzzzzzzzzzzzzzzzzzzzzzzzzzzzzzzzzzzzzzzzzzzzzzzzzzz"))
-    ∷ shown (fetch (op 208 4 Unknown false false (bytes "div x7") (some (97 ∷ 98 ∷ 127 ∷ [])) none [] [] 573) 405)
-    ∷ shown start ∷ shown (text (rename_register 0) 0) ∷ shown (advance none 800) ∷ shown (capacity 0 3)
-    ∷ shown (fetch (op 208 7 Load false false (bytes "mul x4") none (some []) (bytes "x7" ∷ []) (bytes "x2" ∷ []) 76) 800) ∷ shown
+    ∷ shown (fetch (op 208 4 Unknown false false (bytes "div x7") (Some (97 ∷ 98 ∷ 127 ∷ [])) None [] [] 573) 405)
+    ∷ shown start ∷ shown (text (rename_register 0) 0) ∷ shown (advance None 800) ∷ shown (capacity 0 3)
+    ∷ shown (fetch (op 208 7 Load false false (bytes "mul x4") None (Some []) (bytes "x7" ∷ []) (bytes "x2" ∷ []) 76) 800) ∷ shown
     (resolve 228)
-    ∷ shown start ∷ shown (text (station_label 1) 2) ∷ shown (overlap true) ∷ shown (view (unit 0)) ∷ shown (advance none 800) ∷
+    ∷ shown start ∷ shown (text (station_label 1) 2) ∷ shown (overlap true) ∷ shown (view (unit 0)) ∷ shown (advance None 800) ∷
     shown (text (slot_text (in_station 3) (source 1)) 0)
-    ∷ shown start ∷ shown (capacity 0 4) ∷ shown (advance none 800) ∷ shown (text (slot_text (in_unit 1) (source 5)) 0) ∷ shown (text
+    ∷ shown start ∷ shown (capacity 0 4) ∷ shown (advance None 800) ∷ shown (text (slot_text (in_unit 1) (source 5)) 0) ∷ shown (text
     (stage_name 18446744073709551615) 200)
-    ∷ shown (fetch (op 212 11 Alu false false (bytes "lw x1") (some (bytes "page fault")) (some (bytes "x6")) (bytes "x4" ∷
+    ∷ shown (fetch (op 212 11 Alu false false (bytes "lw x1") (Some (bytes "page fault")) (Some (bytes "x6")) (bytes "x4" ∷
     bytes "x0" ∷ bytes "x2" ∷ []) (bytes "x6" ∷ bytes "x7" ∷ []) 9223372036854775808) 800)
-    ∷ shown start ∷ shown (advance none 800) ∷ shown (retry (bytes "waiting"))
-    ∷ shown (fetch (op 216 7 Load false false (bytes "bbbbbbbbbbbbbbbbbbbbbbbbbbbbbbbbbbbbbbbbbbbbbbbbbbbbbbbbbbbbbbbb") (some
-    (bytes "page fault")) (some (bytes "x4")) [] (bytes "x4" ∷ []) 67) 800)
-    ∷ shown start ∷ shown (advance none 800)
-    ∷ shown (fetch (op 7 10 Store false true (bytes "fadd x6") none (some (bytes "sixteen-bytes-ok")) (bytes "x1" ∷ bytes "x5" ∷ [])
+    ∷ shown start ∷ shown (advance None 800) ∷ shown (retry (bytes "waiting"))
+    ∷ shown (fetch (op 216 7 Load false false (bytes "bbbbbbbbbbbbbbbbbbbbbbbbbbbbbbbbbbbbbbbbbbbbbbbbbbbbbbbbbbbbbbbb") (Some
+    (bytes "page fault")) (Some (bytes "x4")) [] (bytes "x4" ∷ []) 67) 800)
+    ∷ shown start ∷ shown (advance None 800)
+    ∷ shown (fetch (op 7 10 Store false true (bytes "fadd x6") None (Some (bytes "sixteen-bytes-ok")) (bytes "x1" ∷ bytes "x5" ∷ [])
     [] 375) 800)
-    ∷ shown start ∷ shown (advance none 800) ∷ shown (resolve 5147220572574518608)
-    ∷ shown start ∷ shown (advance none 800) ∷ shown (text (trace_detail 18446744073709551615) 0) ∷ shown (text (operand_register 1
-    2) 0) ∷ shown retire ∷ shown (advance none 800)
+    ∷ shown start ∷ shown (advance None 800) ∷ shown (resolve 5147220572574518608)
+    ∷ shown start ∷ shown (advance None 800) ∷ shown (text (trace_detail 18446744073709551615) 0) ∷ shown (text (operand_register 1
+    2) 0) ∷ shown retire ∷ shown (advance None 800)
     ∷ shown (fetch (op 9223372036854775808 1 Load false true
-    (bytes "ecall                                                           ") none (some (bytes "x0")) (bytes "x5" ∷ bytes "x6" ∷
+    (bytes "ecall                                                           ") None (Some (bytes "x0")) (bytes "x5" ∷ bytes "x6" ∷
     bytes "x0" ∷ bytes "x5" ∷ bytes "a.0" ∷ bytes "x7" ∷ bytes "b.0" ∷ bytes "rflags" ∷ []) (bytes "x0" ∷ bytes "sixteen-bytes-ok" ∷
     bytes "x1" ∷ bytes "x1" ∷ []) 144) 800) ∷ shown (reset 12477539769185324842 800)
-    ∷ shown (fetch (op 48 18446744073709551614 Load false false (bytes "beq x3") (some (bytes "page fault")) (some (bytes "x6"))
+    ∷ shown (fetch (op 48 18446744073709551614 Load false false (bytes "beq x3") (Some (bytes "page fault")) (Some (bytes "x6"))
     (bytes "x5" ∷ bytes "x4" ∷ bytes "x7" ∷ []) (bytes "x7" ∷ bytes "x1" ∷ bytes "rflags" ∷ bytes "x7" ∷ bytes "x4" ∷ []) 392) 0)
-    ∷ shown (fetch (op 12477539769185324842 13 Load false false (bytes "? x0") none (some (bytes "shown")) (bytes "x4" ∷ bytes "x7" ∷
+    ∷ shown (fetch (op 12477539769185324842 13 Load false false (bytes "? x0") None (Some (bytes "shown")) (bytes "x4" ∷ bytes "x7" ∷
     bytes "x1" ∷ bytes "x3" ∷ bytes "rflags" ∷ bytes "x2" ∷ bytes "x0" ∷ bytes "x6" ∷ []) (bytes "x0" ∷ bytes "x3" ∷ bytes "x0" ∷
     bytes "x4" ∷ bytes "x4" ∷ []) 0) 800)
-    ∷ shown start ∷ shown (advance none 800) ∷ shown (capacity 2 4) ∷ shown (overlap false) ∷ shown (overlap false)
-    ∷ shown (fetch (op 12477539769185324842 6 Divide false true (34 ∷ 113 ∷ 34 ∷ 32 ∷ 120 ∷ 56 ∷ []) (some []) none [] [] 462) 800)
-    ∷ shown start ∷ shown (advance none 800)
-    ∷ shown start ∷ shown (advance none 800)
-    ∷ shown start ∷ shown (advance none 800)
-    ∷ shown start ∷ shown (advance none 800) ∷ shown (advance none 800)
+    ∷ shown start ∷ shown (advance None 800) ∷ shown (capacity 2 4) ∷ shown (overlap false) ∷ shown (overlap false)
+    ∷ shown (fetch (op 12477539769185324842 6 Divide false true (34 ∷ 113 ∷ 34 ∷ 32 ∷ 120 ∷ 56 ∷ []) (Some []) None [] [] 462) 800)
+    ∷ shown start ∷ shown (advance None 800)
+    ∷ shown start ∷ shown (advance None 800)
+    ∷ shown start ∷ shown (advance None 800)
+    ∷ shown start ∷ shown (advance None 800) ∷ shown (advance None 800)
     ∷ shown start
-    ∷ shown (fetch (op 12477539769185324846 11 Alu false false (bytes "jal x0") (some []) none (bytes "x3" ∷ bytes "x5" ∷ bytes "x0"
-    ∷ []) (bytes "zzzzzzzzzzzzzzzzz" ∷ []) 515) 800) ∷ shown (advance none 800) ∷ shown (capacity 0 2)
+    ∷ shown (fetch (op 12477539769185324846 11 Alu false false (bytes "jal x0") (Some []) None (bytes "x3" ∷ bytes "x5" ∷ bytes "x0"
+    ∷ []) (bytes "zzzzzzzzzzzzzzzzz" ∷ []) 515) 800) ∷ shown (advance None 800) ∷ shown (capacity 0 2)
     ∷ rest ∷ []
 
 abbrev numbers : List ℕ

@@ -1,6 +1,5 @@
 -- List 28 of the sample, from seed 718. Made by the harness: see docs/SAMPLES.md.
-use Rattle.std.specs.Prelude.{ℕ, true, false, List, [], ◌∷◌}
-use Rattle.std.proofs.Math.Option.{none, some}
+use Rattle.std.specs.Prelude.{ℕ, true, false, List, [], ◌∷◌, None, Some}
 use Rattle.laws.specs.Texts.{bytes}
 use Rattle.capability.specs.declared.PipelineInstructionClass.TheVariants.{Alu, Multiply, Divide, FloatingPoint, Unknown}
 use Rattle.model.specs.Config.{timing, PipelineShape, pipeline_shape}
@@ -44,63 +43,63 @@ use Rattle.capability.specs.declared.PipelineStageRole.TheVariants as role
 
 abbrev shape : PipelineShape
 shape =
-    pipeline_shape (role.Commit ∷ role.Issue ∷ role.Fetch ∷ []) none (timing 0 5 5 1 0 0 2) [] 2
+    pipeline_shape (role.Commit ∷ role.Issue ∷ role.Fetch ∷ []) None (timing 0 5 5 1 0 0 2) [] 2
 
 abbrev steps : List Step
 steps =
     shown start ∷ shown (view (timeline_row 0))
     ∷ shown start
     ∷ shown start ∷ shown (retry (bytes "zzzzzzzzzzzzzzzzzzzzzzzzzzzzzzzzzzzzzzzzzzzzzzzzzzzzzzzzzzzzzzzzz")) ∷ shown (cell 0 0 400)
-    ∷ shown (advance none 400)
-    ∷ shown (fetch (op 0 1 Divide false false (bytes "? x2") none (some (bytes "shown")) (bytes "x6" ∷ bytes "x0" ∷ bytes "x5" ∷
+    ∷ shown (advance None 400)
+    ∷ shown (fetch (op 0 1 Divide false false (bytes "? x2") None (Some (bytes "shown")) (bytes "x6" ∷ bytes "x0" ∷ bytes "x5" ∷
     bytes "x1" ∷ bytes "x5" ∷ bytes "x0" ∷ bytes "x7" ∷ bytes " x 1" ∷ []) (bytes "x0" ∷ bytes "x0" ∷ bytes "x5" ∷ bytes "rflags" ∷
     []) 362) 400)
     ∷ shown start ∷ shown (reset 156 400)
-    ∷ shown start ∷ shown (advance none 403)
-    ∷ shown (fetch (op 156 2 Unknown false false (bytes "sub x3") none (some (bytes "x0")) (bytes "x7" ∷ bytes "x2" ∷ bytes "x2" ∷
+    ∷ shown start ∷ shown (advance None 403)
+    ∷ shown (fetch (op 156 2 Unknown false false (bytes "sub x3") None (Some (bytes "x0")) (bytes "x7" ∷ bytes "x2" ∷ bytes "x2" ∷
     []) (bytes "x0" ∷ bytes "x6" ∷ bytes "rflags" ∷ []) 373) 400)
-    ∷ shown start ∷ shown (advance none 400) ∷ shown (text (rename_register 18446744073709551615) 0)
-    ∷ shown start ∷ shown (advance none 402)
-    ∷ shown start ∷ shown (retry (bytes "waiting")) ∷ shown (advance (some 0) 0) ∷ shown (retry (bytes "waiting")) ∷ shown (advance
-    none 400)
+    ∷ shown start ∷ shown (advance None 400) ∷ shown (text (rename_register 18446744073709551615) 0)
+    ∷ shown start ∷ shown (advance None 402)
+    ∷ shown start ∷ shown (retry (bytes "waiting")) ∷ shown (advance (Some 0) 0) ∷ shown (retry (bytes "waiting")) ∷ shown (advance
+    None 400)
     ∷ shown start ∷ shown (retry (10 ∷ [])) ∷ shown (view trace_count) ∷ shown (text (trace_detail 0) 200) ∷ shown (cell 2
     18446744073709551615 400)
-    ∷ shown (fetch (op 158 4 Divide false false (128 ∷ []) none (some (bytes "shown")) (bytes "x7" ∷ bytes "x1" ∷ bytes "a.0" ∷
+    ∷ shown (fetch (op 158 4 Divide false false (128 ∷ []) None (Some (bytes "shown")) (bytes "x7" ∷ bytes "x1" ∷ bytes "a.0" ∷
     bytes "x4" ∷ bytes "rflags" ∷ bytes "rflags" ∷ bytes "b.0" ∷ bytes "x4" ∷ []) [] 344) 400) ∷ shown (view (unit 0)) ∷ shown
     (capacity 0 3) ∷ shown (view stats) ∷ shown (resolve 192) ∷ shown (overlap false) ∷ shown retire ∷ shown (overlap true) ∷ shown
     (reset 18446744073709551615 400) ∷ shown (overlap true)
-    ∷ shown start ∷ shown (advance none 400)
+    ∷ shown start ∷ shown (advance None 400)
     ∷ shown (fetch (op 18446744073709551615 18446744073709551614 FloatingPoint false false
-    (bytes "~~~~~~~~~~~~~~~~~~~~~~~~~~~~~~~~~~~~~~~~~~~~~~~~~~~~~~~~~~~~~~~~") none (some (bytes "x4")) (bytes "x5" ∷ bytes "x0" ∷
+    (bytes "~~~~~~~~~~~~~~~~~~~~~~~~~~~~~~~~~~~~~~~~~~~~~~~~~~~~~~~~~~~~~~~~") None (Some (bytes "x4")) (bytes "x5" ∷ bytes "x0" ∷
     bytes "sixteen-bytes-ok" ∷ bytes "x7" ∷ []) (bytes "x4" ∷ bytes "x5" ∷ []) 655) 400)
     ∷ shown start ∷ shown (view fetch_pc) ∷ shown (reset 17119762476022827648 402)
-    ∷ shown start ∷ shown (advance none 400)
+    ∷ shown start ∷ shown (advance None 400)
     ∷ shown (fetch (op 17119762476022827648 1 FloatingPoint false false
-    (bytes "~~~~~~~~~~~~~~~~~~~~~~~~~~~~~~~~~~~~~~~~~~~~~~~~~~~~~~~~~~~~~~~~") none none (bytes "x7" ∷ bytes "x6" ∷ bytes "x3" ∷ [])
+    (bytes "~~~~~~~~~~~~~~~~~~~~~~~~~~~~~~~~~~~~~~~~~~~~~~~~~~~~~~~~~~~~~~~~") None None (bytes "x7" ∷ bytes "x6" ∷ bytes "x3" ∷ [])
     (bytes "x2" ∷ bytes "x6" ∷ []) 539) 400) ∷ shown (fault (bytes "waiting"))
     ∷ shown start ∷ shown (redirect 56) ∷ shown (view trace_count)
-    ∷ shown start ∷ shown (text (operand_register 18446744073709551615 2) 0) ∷ shown (advance none 400) ∷ shown (view (buffer_entry
+    ∷ shown start ∷ shown (text (operand_register 18446744073709551615 2) 0) ∷ shown (advance None 400) ∷ shown (view (buffer_entry
     0))
-    ∷ shown (fetch (op 56 1 Multiply false true (bytes "div x3") none (some (bytes "shown")) (bytes "x2" ∷ bytes "x1" ∷ bytes "x7" ∷
+    ∷ shown (fetch (op 56 1 Multiply false true (bytes "div x3") None (Some (bytes "shown")) (bytes "x2" ∷ bytes "x1" ∷ bytes "x7" ∷
     []) [] 934) 400)
-    ∷ shown start ∷ shown (text (slot_text (in_unit 18446744073709551615) (write 2)) 200) ∷ shown (advance (some
+    ∷ shown start ∷ shown (text (slot_text (in_unit 18446744073709551615) (write 2)) 200) ∷ shown (advance (Some
     16468996918522085660) 400)
-    ∷ shown (fetch (op 16468996918522085660 15 Alu false false (bytes "mul x5") none (some []) (bytes "x0" ∷ bytes "c.0" ∷ bytes "x1"
+    ∷ shown (fetch (op 16468996918522085660 15 Alu false false (bytes "mul x5") None (Some []) (bytes "x0" ∷ bytes "c.0" ∷ bytes "x1"
     ∷ []) (bytes "x6" ∷ []) 18446744073709551615) 400) ∷ shown (view (timeline_row 0)) ∷ shown (text (slot_text (in_unit 0)
     fault_note) 0)
-    ∷ shown start ∷ shown (advance none 399) ∷ shown (capacity 2 3) ∷ shown (advance none 400)
-    ∷ shown (fetch (op 16468996918522085675 18446744073709551614 Alu false false (bytes "? x1") none (some (bytes "x7")) (bytes "x1"
+    ∷ shown start ∷ shown (advance None 399) ∷ shown (capacity 2 3) ∷ shown (advance None 400)
+    ∷ shown (fetch (op 16468996918522085675 18446744073709551614 Alu false false (bytes "? x1") None (Some (bytes "x7")) (bytes "x1"
     ∷ []) (bytes "x7" ∷ []) 203) 400)
     ∷ shown start ∷ shown (text (rename_register 0) 2)
     ∷ shown (fetch (op 16468996918522085673 15 Multiply false false
-    (bytes "bbbbbbbbbbbbbbbbbbbbbbbbbbbbbbbbbbbbbbbbbbbbbbbbbbbbbbbbbbbbbbbb") none none (bytes "x0" ∷ bytes "x1" ∷ []) (bytes "x2" ∷
-    (0 ∷ []) ∷ []) 413) 0) ∷ shown (advance none 400)
-    ∷ shown (fetch (op 16468996918522085673 0 Alu true false (bytes "? x7") none (some []) (bytes "x1" ∷ bytes "x3" ∷ []) (bytes "x0"
+    (bytes "bbbbbbbbbbbbbbbbbbbbbbbbbbbbbbbbbbbbbbbbbbbbbbbbbbbbbbbbbbbbbbbb") None None (bytes "x0" ∷ bytes "x1" ∷ []) (bytes "x2" ∷
+    (0 ∷ []) ∷ []) 413) 0) ∷ shown (advance None 400)
+    ∷ shown (fetch (op 16468996918522085673 0 Alu true false (bytes "? x7") None (Some []) (bytes "x1" ∷ bytes "x3" ∷ []) (bytes "x0"
     ∷ []) 485) 400)
-    ∷ shown start ∷ shown (advance none 400) ∷ shown (text (rename_register 0) 2)
+    ∷ shown start ∷ shown (advance None 400) ∷ shown (text (rename_register 0) 2)
     ∷ shown start ∷ shown (view rename_count) ∷ shown (text (trace_detail 18446744073709551615) 1) ∷ shown (retry (10 ∷ [])) ∷ shown
     (text (slot_text (in_station 18446744073709551615) (source 1)) 200) ∷ shown (fault (bytes "waiting")) ∷ shown (text (trace_detail
-    0) 1) ∷ shown (advance none 400) ∷ shown (reset 7706938830051440747 400) ∷ shown (capacity 0 0)
+    0) 1) ∷ shown (advance None 400) ∷ shown (reset 7706938830051440747 400) ∷ shown (capacity 0 0)
     ∷ shown start ∷ shown halt ∷ shown (reset 216 400)
     ∷ shown start
     ∷ rest ∷ []

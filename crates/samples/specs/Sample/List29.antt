@@ -1,6 +1,5 @@
 -- List 29 of the sample, from seed 499. Made by the harness: see docs/SAMPLES.md.
-use Rattle.std.specs.Prelude.{ℕ, true, false, List, [], ◌∷◌}
-use Rattle.std.proofs.Math.Option.{none, some}
+use Rattle.std.specs.Prelude.{ℕ, true, false, List, [], ◌∷◌, None, Some}
 use Rattle.laws.specs.Texts.{bytes}
 use Rattle.capability.specs.declared.PipelineInstructionClass.TheVariants.{Alu, Multiply, Divide, Load, Store, Branch, System, Unknown}
 use Rattle.model.specs.Config.{timing, unit_spec, PipelineShape, pipeline_shape}
@@ -45,66 +44,66 @@ use Rattle.capability.specs.declared.PipelineStageRole.TheVariants as role
 abbrev shape : PipelineShape
 shape =
     pipeline_shape (role.Decode ∷ role.Execute ∷ role.Writeback ∷ role.Issue ∷ role.Other ∷ role.Memory ∷ role.Other ∷ role.Decode ∷
-    role.Other ∷ role.Memory ∷ role.Memory ∷ role.Issue ∷ role.Other ∷ role.Decode ∷ role.Decode ∷ []) none (timing 0 5 0 2 8 5 8)
+    role.Other ∷ role.Memory ∷ role.Memory ∷ role.Issue ∷ role.Other ∷ role.Decode ∷ role.Decode ∷ []) None (timing 0 5 0 2 8 5 8)
     (unit_spec (bytes "12345678") [] Unknown 2 ∷ []) 1
 
 abbrev steps : List Step
 steps =
     shown (overlap true)
-    ∷ shown start ∷ shown (advance (some 6190588161699076636) 200) ∷ shown (text (slot_text (in_queue 0) fault_note) 0)
-    ∷ shown (fetch (op 6190588161699076636 0 Load false false (bytes "nop x1") none (some (bytes "sixteen-bytes-ok")) (bytes "x5" ∷
+    ∷ shown start ∷ shown (advance (Some 6190588161699076636) 200) ∷ shown (text (slot_text (in_queue 0) fault_note) 0)
+    ∷ shown (fetch (op 6190588161699076636 0 Load false false (bytes "nop x1") None (Some (bytes "sixteen-bytes-ok")) (bytes "x5" ∷
     bytes "x3" ∷ bytes "x1" ∷ []) [] 787) 200)
-    ∷ shown start ∷ shown (advance none 200)
-    ∷ shown start ∷ shown (advance none 200) ∷ shown (advance (some 88) 200) ∷ shown (overlap false) ∷ shown (view stats) ∷ shown
+    ∷ shown start ∷ shown (advance None 200)
+    ∷ shown start ∷ shown (advance None 200) ∷ shown (advance (Some 88) 200) ∷ shown (overlap false) ∷ shown (view stats) ∷ shown
     (text (rename_register 0) 1) ∷ shown (text (slot_text (in_station 3) destination) 0) ∷ shown (capacity 0 65)
-    ∷ shown (fetch (op 6190588161699076637 11 Alu false false (bytes "add x2") none (some []) (bytes "x6" ∷ [] ∷ []) (bytes "x3" ∷
+    ∷ shown (fetch (op 6190588161699076637 11 Alu false false (bytes "add x2") None (Some []) (bytes "x6" ∷ [] ∷ []) (bytes "x3" ∷
     []) 463) 200) ∷ shown (overlap false) ∷ shown (text (rename_register 0) 0) ∷ shown halt
-    ∷ shown start ∷ shown (advance none 200) ∷ shown (reset 18446744073709551614 200)
-    ∷ shown start ∷ shown (advance (some 8861283483217574691) 200) ∷ shown (capacity 0 65)
-    ∷ shown (fetch (op 8861283483217574691 4 Divide false false (bytes "sub x9") none none (bytes "x1" ∷ bytes "x1" ∷ bytes "x1" ∷
+    ∷ shown start ∷ shown (advance None 200) ∷ shown (reset 18446744073709551614 200)
+    ∷ shown start ∷ shown (advance (Some 8861283483217574691) 200) ∷ shown (capacity 0 65)
+    ∷ shown (fetch (op 8861283483217574691 4 Divide false false (bytes "sub x9") None None (bytes "x1" ∷ bytes "x1" ∷ bytes "x1" ∷
     bytes "x1" ∷ bytes "x1" ∷ (10 ∷ []) ∷ []) (bytes "x2" ∷ bytes "x2" ∷ bytes "x2" ∷ (31 ∷ []) ∷ []) 608) 9) ∷ shown (view
     unit_count) ∷ shown (text (rename_register 0) 200)
-    ∷ shown (fetch (op 8861283483217574691 9223372036854775808 Load false false (bytes "lw x7") (some
-    (bytes "ffffffffffffffffffffffffffffffffffffffffffffffffffffffffffffffff")) (some (bytes "x7")) [] (bytes "x7" ∷ []) 741) 200) ∷
+    ∷ shown (fetch (op 8861283483217574691 9223372036854775808 Load false false (bytes "lw x7") (Some
+    (bytes "ffffffffffffffffffffffffffffffffffffffffffffffffffffffffffffffff")) (Some (bytes "x7")) [] (bytes "x7" ∷ []) 741) 200) ∷
     shown (capacity 0 0) ∷ shown (cell 0 0 200)
-    ∷ shown start ∷ shown (advance none 200)
-    ∷ shown start ∷ shown (advance none 200) ∷ shown (overlap true)
-    ∷ shown start ∷ shown (text (trace_detail 0) 0) ∷ shown (advance none 200)
-    ∷ shown (fetch (op 18084655520072350499 0 Unknown false false (bytes "lw x0") none (some []) (bytes "x7" ∷ bytes "x4" ∷
+    ∷ shown start ∷ shown (advance None 200)
+    ∷ shown start ∷ shown (advance None 200) ∷ shown (overlap true)
+    ∷ shown start ∷ shown (text (trace_detail 0) 0) ∷ shown (advance None 200)
+    ∷ shown (fetch (op 18084655520072350499 0 Unknown false false (bytes "lw x0") None (Some []) (bytes "x7" ∷ bytes "x4" ∷
     bytes "x3" ∷ []) ([] ∷ bytes "x3" ∷ bytes "x6" ∷ []) 792) 200) ∷ shown (retry (bytes "waiting"))
     ∷ shown start ∷ shown (resolve 188) ∷ shown (redirect 12)
-    ∷ shown start ∷ shown (advance none 200) ∷ shown (reset 0 200)
-    ∷ shown start ∷ shown (advance none 200)
-    ∷ shown (fetch (op 0 15 Alu false false (bytes "mul x5") none (some (bytes "sixteen-bytes-ok")) (bytes "x4" ∷ []) [] 685) 200)
-    ∷ shown start ∷ shown (advance none 200) ∷ shown retire
-    ∷ shown (fetch (op 15 15 System false false (bytes "ecall x3") (some
-    (bytes "ffffffffffffffffffffffffffffffffffffffffffffffffffffffffffffffff")) none (bytes "x6" ∷ bytes "x7" ∷ bytes "x4" ∷ [])
+    ∷ shown start ∷ shown (advance None 200) ∷ shown (reset 0 200)
+    ∷ shown start ∷ shown (advance None 200)
+    ∷ shown (fetch (op 0 15 Alu false false (bytes "mul x5") None (Some (bytes "sixteen-bytes-ok")) (bytes "x4" ∷ []) [] 685) 200)
+    ∷ shown start ∷ shown (advance None 200) ∷ shown retire
+    ∷ shown (fetch (op 15 15 System false false (bytes "ecall x3") (Some
+    (bytes "ffffffffffffffffffffffffffffffffffffffffffffffffffffffffffffffff")) None (bytes "x6" ∷ bytes "x7" ∷ bytes "x4" ∷ [])
     (bytes "x1" ∷ bytes "x0" ∷ []) 527) 200) ∷ shown (overlap false) ∷ shown (capacity 0 1)
-    ∷ shown start ∷ shown (advance none 200)
-    ∷ shown start ∷ shown (text (stage_name 0) 2) ∷ shown (view (station 0)) ∷ shown (advance none 200)
-    ∷ shown start ∷ shown (advance none 200) ∷ shown (text (row_disassembly 0) 8)
+    ∷ shown start ∷ shown (advance None 200)
+    ∷ shown start ∷ shown (text (stage_name 0) 2) ∷ shown (view (station 0)) ∷ shown (advance None 200)
+    ∷ shown start ∷ shown (advance None 200) ∷ shown (text (row_disassembly 0) 8)
     ∷ shown start ∷ shown retire ∷ shown (view (queued 0))
-    ∷ shown (fetch (op 30 0 Store false false (bytes "add x1") none (some []) (bytes "x7" ∷ bytes "x4" ∷ bytes "x4" ∷ bytes "x4" ∷
+    ∷ shown (fetch (op 30 0 Store false false (bytes "add x1") None (Some []) (bytes "x7" ∷ bytes "x4" ∷ bytes "x4" ∷ bytes "x4" ∷
     bytes "x1" ∷ bytes "sixteen-bytes-ok" ∷ bytes "x1" ∷ bytes "x0" ∷ bytes "x2" ∷ []) (bytes "x6" ∷ []) 896) 200) ∷ shown (text
-    (slot_text (in_station 0) (source 1)) 0) ∷ shown (advance none 200) ∷ shown (view enabled)
-    ∷ shown start ∷ shown (advance none 200)
-    ∷ shown start ∷ shown (cell 0 0 200) ∷ shown (advance none 200) ∷ shown (text (rename_register 1) 2) ∷ shown (overlap true)
+    (slot_text (in_station 0) (source 1)) 0) ∷ shown (advance None 200) ∷ shown (view enabled)
+    ∷ shown start ∷ shown (advance None 200)
+    ∷ shown start ∷ shown (cell 0 0 200) ∷ shown (advance None 200) ∷ shown (text (rename_register 1) 2) ∷ shown (overlap true)
     ∷ shown start
-    ∷ shown (fetch (op 30 1 Alu false false (bytes "add x0") none (some (97 ∷ 98 ∷ 127 ∷ [])) (bytes "x4" ∷ bytes "x5" ∷ bytes "x2" ∷
+    ∷ shown (fetch (op 30 1 Alu false false (bytes "add x0") None (Some (97 ∷ 98 ∷ 127 ∷ [])) (bytes "x4" ∷ bytes "x5" ∷ bytes "x2" ∷
     bytes "x4" ∷ bytes "x7" ∷ bytes "x4" ∷ bytes "x1" ∷ bytes "x1" ∷ (10 ∷ []) ∷ []) (bytes "x2" ∷ bytes "x2" ∷ bytes "x2" ∷
-    bytes "zzzzzzzzzzzzzzzzz" ∷ []) 413) 200) ∷ shown (resolve 232) ∷ shown (resolve 208) ∷ shown (advance none 200)
-    ∷ shown (fetch (op 30 5 Branch true false (bytes "? x1") (some []) (some (bytes "sixteen-bytes-ok")) (bytes "x3" ∷ bytes "x2" ∷
-    []) (bytes "x7" ∷ []) 364) 200) ∷ shown (capacity 2 1) ∷ shown (advance (some 32) 200)
-    ∷ shown start ∷ shown (advance none 200)
-    ∷ shown start ∷ shown (advance none 200)
-    ∷ shown start ∷ shown (advance none 0) ∷ shown (resolve 116) ∷ shown (cell 1 0 200) ∷ shown (advance none 200)
-    ∷ shown start ∷ shown retire ∷ shown (advance none 200) ∷ shown (resolve 17465787988831859147)
-    ∷ shown start ∷ shown (advance none 200)
-    ∷ shown start ∷ shown retire ∷ shown (text (station_label 1) 0) ∷ shown (advance (some 104) 200) ∷ shown (view enabled)
-    ∷ shown (fetch (op 104 0 Store false false (bytes "ecall x2") none (some (bytes "x5")) (bytes "x5" ∷ bytes "x7" ∷ bytes "x0" ∷
+    bytes "zzzzzzzzzzzzzzzzz" ∷ []) 413) 200) ∷ shown (resolve 232) ∷ shown (resolve 208) ∷ shown (advance None 200)
+    ∷ shown (fetch (op 30 5 Branch true false (bytes "? x1") (Some []) (Some (bytes "sixteen-bytes-ok")) (bytes "x3" ∷ bytes "x2" ∷
+    []) (bytes "x7" ∷ []) 364) 200) ∷ shown (capacity 2 1) ∷ shown (advance (Some 32) 200)
+    ∷ shown start ∷ shown (advance None 200)
+    ∷ shown start ∷ shown (advance None 200)
+    ∷ shown start ∷ shown (advance None 0) ∷ shown (resolve 116) ∷ shown (cell 1 0 200) ∷ shown (advance None 200)
+    ∷ shown start ∷ shown retire ∷ shown (advance None 200) ∷ shown (resolve 17465787988831859147)
+    ∷ shown start ∷ shown (advance None 200)
+    ∷ shown start ∷ shown retire ∷ shown (text (station_label 1) 0) ∷ shown (advance (Some 104) 200) ∷ shown (view enabled)
+    ∷ shown (fetch (op 104 0 Store false false (bytes "ecall x2") None (Some (bytes "x5")) (bytes "x5" ∷ bytes "x7" ∷ bytes "x0" ∷
     bytes "x4" ∷ bytes "x2" ∷ bytes "x1" ∷ bytes "x3" ∷ bytes "x0" ∷ []) (bytes "x5" ∷ bytes "x7" ∷ bytes "x2" ∷ bytes "x7" ∷ [])
     355) 200)
-    ∷ shown (fetch (op 105 4 Multiply false false (34 ∷ 113 ∷ 34 ∷ 32 ∷ 120 ∷ 53 ∷ []) none (some (bytes "x6")) (bytes "x6" ∷
+    ∷ shown (fetch (op 105 4 Multiply false false (34 ∷ 113 ∷ 34 ∷ 32 ∷ 120 ∷ 53 ∷ []) None (Some (bytes "x6")) (bytes "x6" ∷
     bytes "x3" ∷ bytes "x2" ∷ bytes "x4" ∷ bytes " x 1" ∷ bytes "x3" ∷ bytes "x6" ∷ bytes "x4" ∷ bytes "x5" ∷ []) (bytes "x6" ∷ [])
     327) 200)
     ∷ shown start ∷ shown (text (operand_register 1 1) 0) ∷ shown (retry (31 ∷ []))

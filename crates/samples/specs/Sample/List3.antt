@@ -1,6 +1,5 @@
 -- List 3 of the sample, from seed 2167. Made by the harness: see docs/SAMPLES.md.
-use Rattle.std.specs.Prelude.{ℕ, true, false, List, [], ◌∷◌}
-use Rattle.std.proofs.Math.Option.{none, some}
+use Rattle.std.specs.Prelude.{ℕ, true, false, List, [], ◌∷◌, None, Some}
 use Rattle.laws.specs.Texts.{bytes}
 use Rattle.capability.specs.declared.PipelineInstructionClass.TheVariants.{
   Alu,
@@ -50,54 +49,54 @@ use Rattle.capability.specs.declared.PipelineStageRole.TheVariants as role
 
 abbrev shape : PipelineShape
 shape =
-    pipeline_shape (role.Decode ∷ role.Execute ∷ role.Decode ∷ []) (some 4) (timing 0 1 2 8 0 0 2) (unit_spec (bytes "A")
+    pipeline_shape (role.Decode ∷ role.Execute ∷ role.Decode ∷ []) (Some 4) (timing 0 1 2 8 0 0 2) (unit_spec (bytes "A")
     (FloatingPoint ∷ FloatingPoint ∷ Unknown ∷ Multiply ∷ Jump ∷ System ∷ Branch ∷ System ∷ System ∷ Load ∷ []) Load 3 ∷ []) 0
 
 abbrev steps : List Step
 steps =
     shown (overlap true)
-    ∷ shown start ∷ shown (text (rename_register 18446744073709551615) 0) ∷ shown (advance none 200)
-    ∷ shown (fetch (op 9223372036854775808 12 Jump true false (bytes "mul x4") (some (97 ∷ 98 ∷ 127 ∷ [])) (some (bytes "x2"))
+    ∷ shown start ∷ shown (text (rename_register 18446744073709551615) 0) ∷ shown (advance None 200)
+    ∷ shown (fetch (op 9223372036854775808 12 Jump true false (bytes "mul x4") (Some (97 ∷ 98 ∷ 127 ∷ [])) (Some (bytes "x2"))
     (bytes "x0" ∷ bytes "x1" ∷ []) (bytes "x2" ∷ []) 445) 0)
-    ∷ shown start ∷ shown (cell 0 0 200) ∷ shown (advance none 200)
-    ∷ shown (fetch (op 55 14 Branch true false (128 ∷ []) (some []) (some []) (bytes "x1" ∷ bytes "x2" ∷ bytes "x1" ∷ bytes "x0" ∷
+    ∷ shown start ∷ shown (cell 0 0 200) ∷ shown (advance None 200)
+    ∷ shown (fetch (op 55 14 Branch true false (128 ∷ []) (Some []) (Some []) (bytes "x1" ∷ bytes "x2" ∷ bytes "x1" ∷ bytes "x0" ∷
     bytes "x1" ∷ bytes "x2" ∷ bytes "x2" ∷ bytes "x2" ∷ bytes "x1" ∷ []) (bytes "x2" ∷ bytes "x2" ∷ bytes " x 1" ∷ bytes "x1" ∷ [])
-    582) 200) ∷ shown (advance none 200)
-    ∷ shown (fetch (op 0 7 Alu false true (bytes "div x2") (some (31 ∷ [])) none (bytes "x0" ∷ bytes "x1" ∷ bytes "x1" ∷ [])
+    582) 200) ∷ shown (advance None 200)
+    ∷ shown (fetch (op 0 7 Alu false true (bytes "div x2") (Some (31 ∷ [])) None (bytes "x0" ∷ bytes "x1" ∷ bytes "x1" ∷ [])
     (bytes "x2" ∷ bytes "x2" ∷ (128 ∷ []) ∷ []) 248) 200) ∷ shown (text (slot_text on_offer (source 4)) 0)
     ∷ shown start ∷ shown (text (trace_detail 0) 200)
-    ∷ shown (fetch (op 9223372036854775808 2 Alu false false (bytes "fadd x9") none (some (bytes "shown")) (bytes "sixteen-bytes-ok"
-    ∷ bytes "x1" ∷ bytes "x1" ∷ []) (bytes "x1" ∷ bytes "x0" ∷ bytes "x2" ∷ bytes "x2" ∷ []) 596) 0) ∷ shown (advance none 200)
-    ∷ shown (fetch (op 9223372036854775808 15 Alu false false [] (some []) (some (bytes "sixteen-bytes-ok")) (bytes "x0" ∷ bytes "x1"
+    ∷ shown (fetch (op 9223372036854775808 2 Alu false false (bytes "fadd x9") None (Some (bytes "shown")) (bytes "sixteen-bytes-ok"
+    ∷ bytes "x1" ∷ bytes "x1" ∷ []) (bytes "x1" ∷ bytes "x0" ∷ bytes "x2" ∷ bytes "x2" ∷ []) 596) 0) ∷ shown (advance None 200)
+    ∷ shown (fetch (op 9223372036854775808 15 Alu false false [] (Some []) (Some (bytes "sixteen-bytes-ok")) (bytes "x0" ∷ bytes "x1"
     ∷ [] ∷ bytes "x0" ∷ []) (bytes "x1" ∷ bytes "x0" ∷ []) 886) 200) ∷ shown (text (rename_register 0) 1)
-    ∷ shown start ∷ shown (advance none 200)
-    ∷ shown (fetch (op 9223372036854775812 1 Alu false false (34 ∷ 113 ∷ 34 ∷ 32 ∷ 120 ∷ 48 ∷ []) none none (bytes "x0" ∷ []) [] 373)
+    ∷ shown start ∷ shown (advance None 200)
+    ∷ shown (fetch (op 9223372036854775812 1 Alu false false (34 ∷ 113 ∷ 34 ∷ 32 ∷ 120 ∷ 48 ∷ []) None None (bytes "x0" ∷ []) [] 373)
     206)
-    ∷ shown start ∷ shown (advance none 200)
-    ∷ shown (fetch (op 9223372036854775816 12 Divide true false (bytes "ecall x5") none (some (bytes "x1")) (bytes "x2" ∷ bytes "x0"
+    ∷ shown start ∷ shown (advance None 200)
+    ∷ shown (fetch (op 9223372036854775816 12 Divide true false (bytes "ecall x5") None (Some (bytes "x1")) (bytes "x2" ∷ bytes "x0"
     ∷ bytes "x2" ∷ bytes "x2" ∷ []) (bytes "x1" ∷ bytes "sixteen-bytes-ok" ∷ bytes "x2" ∷ []) 82) 200) ∷ shown (text (station_label
     4) 0) ∷ shown (view fetch_pc)
-    ∷ shown start ∷ shown (advance none 200) ∷ shown (text status_message 0)
-    ∷ shown start ∷ shown (overlap false) ∷ shown (advance none 200) ∷ shown (text (station_label 1) 2) ∷ shown (text (stage_name 5)
+    ∷ shown start ∷ shown (advance None 200) ∷ shown (text status_message 0)
+    ∷ shown start ∷ shown (overlap false) ∷ shown (advance None 200) ∷ shown (text (station_label 1) 2) ∷ shown (text (stage_name 5)
     0)
-    ∷ shown start ∷ shown retire ∷ shown (capacity 0 3) ∷ shown retire ∷ shown (advance (some 18446744073709551615) 200) ∷ shown
+    ∷ shown start ∷ shown retire ∷ shown (capacity 0 3) ∷ shown retire ∷ shown (advance (Some 18446744073709551615) 200) ∷ shown
     (capacity 1 3)
-    ∷ shown start ∷ shown (view rename_count) ∷ shown (advance none 200) ∷ shown (advance none 0)
-    ∷ shown start ∷ shown (text (trace_detail 0) 0) ∷ shown halt ∷ shown halt ∷ shown (advance none 200)
-    ∷ shown start ∷ shown (view buffer_capacity) ∷ shown (advance none 200) ∷ shown (redirect 1)
-    ∷ shown start ∷ shown (advance none 200) ∷ shown (text (rename_register 0) 200)
-    ∷ shown (fetch (op 1 1 Divide false false (34 ∷ 113 ∷ 34 ∷ 32 ∷ 120 ∷ 50 ∷ []) none (some (bytes "x1")) [] (bytes "x1" ∷ []) 988)
+    ∷ shown start ∷ shown (view rename_count) ∷ shown (advance None 200) ∷ shown (advance None 0)
+    ∷ shown start ∷ shown (text (trace_detail 0) 0) ∷ shown halt ∷ shown halt ∷ shown (advance None 200)
+    ∷ shown start ∷ shown (view buffer_capacity) ∷ shown (advance None 200) ∷ shown (redirect 1)
+    ∷ shown start ∷ shown (advance None 200) ∷ shown (text (rename_register 0) 200)
+    ∷ shown (fetch (op 1 1 Divide false false (34 ∷ 113 ∷ 34 ∷ 32 ∷ 120 ∷ 50 ∷ []) None (Some (bytes "x1")) [] (bytes "x1" ∷ []) 988)
     200)
-    ∷ shown start ∷ shown (text (slot_text (in_unit 1) (source 0)) 200) ∷ shown (advance none 200)
-    ∷ shown (fetch (op 5 12 Divide false false (bytes "sub x3") none (some []) (bytes "x1" ∷ bytes "x1" ∷ bytes "x0" ∷ bytes "x1" ∷
+    ∷ shown start ∷ shown (text (slot_text (in_unit 1) (source 0)) 200) ∷ shown (advance None 200)
+    ∷ shown (fetch (op 5 12 Divide false false (bytes "sub x3") None (Some []) (bytes "x1" ∷ bytes "x1" ∷ bytes "x0" ∷ bytes "x1" ∷
     (31 ∷ []) ∷ []) (bytes "rflags" ∷ []) 18446744073709551614) 200)
-    ∷ shown start ∷ shown (cell 0 3 200) ∷ shown (advance (some 18446744073709551615) 200)
-    ∷ shown start ∷ shown (advance none 200) ∷ shown (capacity 0 3) ∷ shown (view (unit 0)) ∷ shown (retry [])
-    ∷ shown start ∷ shown (advance none 200) ∷ shown (capacity 18446744073709551615 3) ∷ shown (text (slot_text (in_station 1)
+    ∷ shown start ∷ shown (cell 0 3 200) ∷ shown (advance (Some 18446744073709551615) 200)
+    ∷ shown start ∷ shown (advance None 200) ∷ shown (capacity 0 3) ∷ shown (view (unit 0)) ∷ shown (retry [])
+    ∷ shown start ∷ shown (advance None 200) ∷ shown (capacity 18446744073709551615 3) ∷ shown (text (slot_text (in_station 1)
     (source 0)) 0)
-    ∷ shown start ∷ shown (text (slot_text (in_station 4) destination) 0) ∷ shown (advance none 200)
+    ∷ shown start ∷ shown (text (slot_text (in_station 4) destination) 0) ∷ shown (advance None 200)
     ∷ shown start ∷ shown (capacity 0 3)
-    ∷ shown start ∷ shown (advance none 200)
+    ∷ shown start ∷ shown (advance None 200)
     ∷ shown start ∷ shown (overlap true)
     ∷ rest ∷ []
 

@@ -1,6 +1,5 @@
 -- List 30 of the sample, from seed 2476. Made by the harness: see docs/SAMPLES.md.
-use Rattle.std.specs.Prelude.{ℕ, true, false, List, [], ◌∷◌}
-use Rattle.std.proofs.Math.Option.{none, some}
+use Rattle.std.specs.Prelude.{ℕ, true, false, List, [], ◌∷◌, None, Some}
 use Rattle.laws.specs.Texts.{bytes}
 use Rattle.capability.specs.declared.PipelineInstructionClass.TheVariants.{Alu, Multiply, Branch, Jump, Unknown}
 use Rattle.model.specs.Config.{timing, unit_spec, PipelineShape, pipeline_shape}
@@ -11,30 +10,30 @@ use Rattle.capability.specs.declared.PipelineStageRole.TheVariants as role
 
 abbrev shape : PipelineShape
 shape =
-    pipeline_shape (role.Decode ∷ []) (some 18446744073709551614) (timing 1 255 18446744073709551614 120 190 255 255) (unit_spec
+    pipeline_shape (role.Decode ∷ []) (Some 18446744073709551614) (timing 1 255 18446744073709551614 120 190 255 255) (unit_spec
     (bytes "DIV") (Multiply ∷ Unknown ∷ Alu ∷ []) Branch 0 ∷ []) 1
 
 abbrev steps : List Step
 steps =
     shown (overlap true)
-    ∷ shown start ∷ shown (advance none 200)
-    ∷ shown (fetch (op 0 13 Alu false false (bytes "ecall x8") none (some (bytes "shown")) (bytes "x6" ∷ bytes "a.0" ∷ bytes "b.0" ∷
+    ∷ shown start ∷ shown (advance None 200)
+    ∷ shown (fetch (op 0 13 Alu false false (bytes "ecall x8") None (Some (bytes "shown")) (bytes "x6" ∷ bytes "a.0" ∷ bytes "b.0" ∷
     bytes "x1" ∷ []) (bytes "x5" ∷ bytes "x2" ∷ bytes "x2" ∷ []) 416) 200)
-    ∷ shown start ∷ shown (advance none 200)
-    ∷ shown (fetch (op 18446744073709551614 13 Unknown false false (bytes "div x7") (some
-    (bytes "ffffffffffffffffffffffffffffffffffffffffffffffffffffffffffffffff")) none [] [] 365) 200) ∷ shown (text (cell_label 9) 0)
-    ∷ idle 5 200 ∷ shown retire ∷ shown (advance none 200)
-    ∷ shown (fetch (op 18446744073709551612 13 Alu false false (bytes "? x2") none (some (bytes "x5")) (bytes "x5" ∷ bytes "x6" ∷
+    ∷ shown start ∷ shown (advance None 200)
+    ∷ shown (fetch (op 18446744073709551614 13 Unknown false false (bytes "div x7") (Some
+    (bytes "ffffffffffffffffffffffffffffffffffffffffffffffffffffffffffffffff")) None [] [] 365) 200) ∷ shown (text (cell_label 9) 0)
+    ∷ idle 5 200 ∷ shown retire ∷ shown (advance None 200)
+    ∷ shown (fetch (op 18446744073709551612 13 Alu false false (bytes "? x2") None (Some (bytes "x5")) (bytes "x5" ∷ bytes "x6" ∷
     bytes "x4" ∷ bytes "x7" ∷ bytes "x0" ∷ bytes "x2" ∷ bytes "x2" ∷ bytes "x4" ∷ []) (bytes "x4" ∷ bytes "x2" ∷ bytes "x0" ∷
     bytes "x2" ∷ bytes "x0" ∷ []) 309) 200)
-    ∷ shown (fetch (op 18446744073709551612 0 Jump false true (bytes "div x4") none (some (bytes "sixteen-bytes-ok")) (bytes "c.0" ∷
+    ∷ shown (fetch (op 18446744073709551612 0 Jump false true (bytes "div x4") None (Some (bytes "sixteen-bytes-ok")) (bytes "c.0" ∷
     bytes "x2" ∷ bytes "x7" ∷ []) (bytes "x5" ∷ bytes "d.0" ∷ []) 965) 200)
-    ∷ shown start ∷ shown (advance none 200)
-    ∷ idle 3 200 ∷ shown retire ∷ shown (advance none 200)
-    ∷ shown (fetch (op 18446744073709551610 0 Jump false true (bytes "? x8") none (some (bytes "x2")) (bytes "x5" ∷ bytes "x7" ∷ [])
+    ∷ shown start ∷ shown (advance None 200)
+    ∷ idle 3 200 ∷ shown retire ∷ shown (advance None 200)
+    ∷ shown (fetch (op 18446744073709551610 0 Jump false true (bytes "? x8") None (Some (bytes "x2")) (bytes "x5" ∷ bytes "x7" ∷ [])
     (bytes "x2" ∷ bytes "x3" ∷ []) 324) 200)
-    ∷ shown start ∷ shown (advance none 205) ∷ shown (view rename_count)
-    ∷ idle 3 200 ∷ shown retire ∷ shown (advance none 200)
+    ∷ shown start ∷ shown (advance None 205) ∷ shown (view rename_count)
+    ∷ idle 3 200 ∷ shown retire ∷ shown (advance None 200)
     ∷ rest ∷ []
 
 abbrev numbers : List ℕ

@@ -1,6 +1,5 @@
 -- List 31 of the sample, from seed 441. Made by the harness: see docs/SAMPLES.md.
-use Rattle.std.specs.Prelude.{ℕ, true, false, List, [], ◌∷◌}
-use Rattle.std.proofs.Math.Option.{none, some}
+use Rattle.std.specs.Prelude.{ℕ, true, false, List, [], ◌∷◌, None, Some}
 use Rattle.laws.specs.Texts.{bytes}
 use Rattle.capability.specs.declared.PipelineInstructionClass.TheVariants.{Alu, Multiply, Divide, Load, Store, Jump, System, FloatingPoint}
 use Rattle.model.specs.Config.{timing, unit_spec, PipelineShape, pipeline_shape}
@@ -51,83 +50,83 @@ use Rattle.samples.specs.Lists.{Step, shown, rest, Case, case_of, op}
 
 abbrev shape : PipelineShape
 shape =
-    pipeline_shape [] none (timing 0 2 8 0 8 2 2) (unit_spec (bytes "SYS") (Divide ∷ Divide ∷ FloatingPoint ∷ Multiply ∷ []) Alu 2 ∷
+    pipeline_shape [] None (timing 0 2 8 0 8 2 2) (unit_spec (bytes "SYS") (Divide ∷ Divide ∷ FloatingPoint ∷ Multiply ∷ []) Alu 2 ∷
     unit_spec (126 ∷ 34 ∷ 92 ∷ 120 ∷ []) (Divide ∷ FloatingPoint ∷ System ∷ []) Alu 4 ∷ []) 2
 
 abbrev steps : List Step
 steps =
     shown (overlap true)
     ∷ shown start ∷ shown (fault (bytes "waiting")) ∷ shown (redirect 192) ∷ shown (view queue_count)
-    ∷ shown start ∷ shown (capacity 2 65) ∷ shown (advance none 400) ∷ shown (text (slot_text (in_queue 0) fault_note) 0)
-    ∷ shown (fetch (op 192 4 Alu false false (bytes "~~~~~~~~~~~~~~~~~~~~~~~~~~~~~~~~~~~~~~~~~~~~~~~~~~~~~~~~~~~~~~~~") none (some
+    ∷ shown start ∷ shown (capacity 2 65) ∷ shown (advance None 400) ∷ shown (text (slot_text (in_queue 0) fault_note) 0)
+    ∷ shown (fetch (op 192 4 Alu false false (bytes "~~~~~~~~~~~~~~~~~~~~~~~~~~~~~~~~~~~~~~~~~~~~~~~~~~~~~~~~~~~~~~~~") None (Some
     []) (bytes "x0" ∷ bytes "x0" ∷ bytes "x7" ∷ []) (bytes "x3" ∷ []) 240) 400)
     ∷ shown start ∷ shown (reset 14044098180716713324 400)
     ∷ shown start
-    ∷ shown (fetch (op 14044098180716713324 6 Alu false false (bytes "mul x1") (some (9 ∷ [])) (some (bytes "x5")) (bytes "x7" ∷
+    ∷ shown (fetch (op 14044098180716713324 6 Alu false false (bytes "mul x1") (Some (9 ∷ [])) (Some (bytes "x5")) (bytes "x7" ∷
     bytes "x7" ∷ bytes "x6" ∷ bytes "x1" ∷ bytes "x6" ∷ bytes "x4" ∷ bytes "x6" ∷ bytes "a.0" ∷ bytes "x2" ∷ []) (bytes "x5" ∷ (31 ∷
     []) ∷ []) 973) 400)
-    ∷ shown (fetch (op 14044098180716713324 9 Multiply false false (bytes "fadd x1") none (some (bytes "sixteen-bytes-ok"))
+    ∷ shown (fetch (op 14044098180716713324 9 Multiply false false (bytes "fadd x1") None (Some (bytes "sixteen-bytes-ok"))
     (bytes "x6" ∷ bytes "x4" ∷ bytes "x2" ∷ bytes "x4" ∷ bytes "x6" ∷ bytes "x1" ∷ bytes "x0" ∷ []) (bytes "x1" ∷ bytes "x7" ∷
     bytes "b.0" ∷ bytes "x3" ∷ []) 527) 400) ∷ shown (text (slot_text (in_unit 0) (write 0)) 0) ∷ shown (capacity 1 3) ∷ shown (text
-    (slot_text (in_station 7) (source 4)) 0) ∷ shown (advance none 400)
-    ∷ shown (fetch (op 14044098180716713324 4 Multiply false false (bytes "ecall x7") none (some (bytes "sixteen-bytes-ok"))
+    (slot_text (in_station 7) (source 4)) 0) ∷ shown (advance None 400)
+    ∷ shown (fetch (op 14044098180716713324 4 Multiply false false (bytes "ecall x7") None (Some (bytes "sixteen-bytes-ok"))
     (bytes "sixteen-bytes-ok" ∷ bytes "x2" ∷ []) (bytes "x1" ∷ []) 0) 400)
-    ∷ shown start ∷ shown (advance none 400) ∷ shown (retry
+    ∷ shown start ∷ shown (advance None 400) ∷ shown (retry
     (bytes "zzzzzzzzzzzzzzzzzzzzzzzzzzzzzzzzzzzzzzzzzzzzzzzzzzzzzzzzzzzzzzzzz"))
-    ∷ shown (fetch (op 14044098180716713328 10 Divide false false (bytes "beq x0") none (some (bytes "shown")) (bytes "x4" ∷
+    ∷ shown (fetch (op 14044098180716713328 10 Divide false false (bytes "beq x0") None (Some (bytes "shown")) (bytes "x4" ∷
     bytes "x5" ∷ []) (bytes "sixteen-bytes-ok" ∷ bytes "x5" ∷ []) 0) 400)
     ∷ shown (fetch (op 14044098180716713338 1 Alu false false
-    (bytes "zzzzzzzzzzzzzzzzzzzzzzzzzzzzzzzzzzzzzzzzzzzzzzzzzzzzzzzzzzzzzzzzz") none (some (31 ∷ [])) (bytes "x2" ∷ bytes "x3" ∷
+    (bytes "zzzzzzzzzzzzzzzzzzzzzzzzzzzzzzzzzzzzzzzzzzzzzzzzzzzzzzzzzzzzzzzzz") None (Some (31 ∷ [])) (bytes "x2" ∷ bytes "x3" ∷
     bytes "x3" ∷ bytes "x2" ∷ bytes "x3" ∷ bytes "x3" ∷ bytes "x6" ∷ bytes "x6" ∷ []) [] 692) 0) ∷ shown (capacity 0 65)
-    ∷ shown start ∷ shown (advance none 400)
-    ∷ shown (fetch (op 14044098180716713338 5 Load false false (bytes "beq x7") none (some (bytes "x0")) (bytes "x3" ∷ [])
+    ∷ shown start ∷ shown (advance None 400)
+    ∷ shown (fetch (op 14044098180716713338 5 Load false false (bytes "beq x7") None (Some (bytes "x0")) (bytes "x3" ∷ [])
     (bytes "x0" ∷ []) 526) 400) ∷ shown (capacity 2 18446744073709551614)
-    ∷ shown start ∷ shown (advance none 400)
-    ∷ shown (fetch (op 14044098180716713343 13 Jump true true (bytes "? x0") none (some []) (bytes "x7" ∷ bytes "x2" ∷ bytes "x4" ∷
+    ∷ shown start ∷ shown (advance None 400)
+    ∷ shown (fetch (op 14044098180716713343 13 Jump true true (bytes "? x0") None (Some []) (bytes "x7" ∷ bytes "x2" ∷ bytes "x4" ∷
     []) (bytes "x4" ∷ bytes "rflags" ∷ bytes "x7" ∷ bytes "rflags" ∷ []) 372) 400) ∷ shown (view buffer_count)
-    ∷ shown start ∷ shown (advance none 400) ∷ shown (resolve 18446744073709551615)
-    ∷ shown start ∷ shown (advance none 400)
-    ∷ shown start ∷ shown (advance (some 68) 0) ∷ shown (text (trace_detail 0) 0) ∷ shown (advance none 400)
-    ∷ shown start ∷ shown retire ∷ shown (text (stage_name 2) 1) ∷ shown (overlap true) ∷ shown (advance none 404)
-    ∷ shown (fetch (op 14044098180716713343 6 Alu false false (bytes "jal x4") none none (bytes "x6" ∷ []) ([] ∷ []) 47) 400) ∷ shown
+    ∷ shown start ∷ shown (advance None 400) ∷ shown (resolve 18446744073709551615)
+    ∷ shown start ∷ shown (advance None 400)
+    ∷ shown start ∷ shown (advance (Some 68) 0) ∷ shown (text (trace_detail 0) 0) ∷ shown (advance None 400)
+    ∷ shown start ∷ shown retire ∷ shown (text (stage_name 2) 1) ∷ shown (overlap true) ∷ shown (advance None 404)
+    ∷ shown (fetch (op 14044098180716713343 6 Alu false false (bytes "jal x4") None None (bytes "x6" ∷ []) ([] ∷ []) 47) 400) ∷ shown
     (cell 1 0 400)
     ∷ shown (fetch (op 14044098180716713349 5 Divide false false
-    (bytes "zzzzzzzzzzzzzzzzzzzzzzzzzzzzzzzzzzzzzzzzzzzzzzzzzzzzzzzzzzzzzzzzz") (some
-    (bytes "ffffffffffffffffffffffffffffffffffffffffffffffffffffffffffffffff")) (some (bytes "x0")) (bytes " x 1" ∷ []) (bytes "x0" ∷
+    (bytes "zzzzzzzzzzzzzzzzzzzzzzzzzzzzzzzzzzzzzzzzzzzzzzzzzzzzzzzzzzzzzzzzz") (Some
+    (bytes "ffffffffffffffffffffffffffffffffffffffffffffffffffffffffffffffff")) (Some (bytes "x0")) (bytes " x 1" ∷ []) (bytes "x0" ∷
     []) 325) 0)
-    ∷ shown start ∷ shown (view buffer_capacity) ∷ shown (view status) ∷ shown (advance none 400)
-    ∷ shown start ∷ shown (view station_count) ∷ shown (advance none 400)
-    ∷ shown start ∷ shown (capacity 0 3) ∷ shown (advance none 400) ∷ shown (view (unit 0))
+    ∷ shown start ∷ shown (view buffer_capacity) ∷ shown (view status) ∷ shown (advance None 400)
+    ∷ shown start ∷ shown (view station_count) ∷ shown (advance None 400)
+    ∷ shown start ∷ shown (capacity 0 3) ∷ shown (advance None 400) ∷ shown (view (unit 0))
     ∷ shown start ∷ shown retire
-    ∷ shown (fetch (op 14044098180716713349 9 Jump true false (31 ∷ []) none (some (10 ∷ [])) [] (bytes "x6" ∷ []) 55) 400) ∷ shown
-    (advance (some 17604763866506897701) 400) ∷ shown (capacity 0 65)
-    ∷ shown (fetch (op 17604763866506897701 2 Alu false false (bytes "sw x1") none none [] [] 204) 400) ∷ shown (view entry_stages) ∷
+    ∷ shown (fetch (op 14044098180716713349 9 Jump true false (31 ∷ []) None (Some (10 ∷ [])) [] (bytes "x6" ∷ []) 55) 400) ∷ shown
+    (advance (Some 17604763866506897701) 400) ∷ shown (capacity 0 65)
+    ∷ shown (fetch (op 17604763866506897701 2 Alu false false (bytes "sw x1") None None [] [] 204) 400) ∷ shown (view entry_stages) ∷
     shown (text (stage_name 0) 200)
-    ∷ shown start ∷ shown (advance none 400)
-    ∷ shown (fetch (op 17604763866506897703 6 Divide false false (bytes "fadd x1") (some []) none [] [] 497) 400)
-    ∷ shown start ∷ shown (advance none 400)
-    ∷ shown (fetch (op 17604763866506897709 1 Alu false false (bytes "sw x2") none (some (bytes "x5")) (bytes "x1" ∷ []) (bytes "x5"
+    ∷ shown start ∷ shown (advance None 400)
+    ∷ shown (fetch (op 17604763866506897703 6 Divide false false (bytes "fadd x1") (Some []) None [] [] 497) 400)
+    ∷ shown start ∷ shown (advance None 400)
+    ∷ shown (fetch (op 17604763866506897709 1 Alu false false (bytes "sw x2") None (Some (bytes "x5")) (bytes "x1" ∷ []) (bytes "x5"
     ∷ (10 ∷ []) ∷ []) 863) 400) ∷ shown (view resume_pc)
     ∷ shown start
-    ∷ shown (fetch (op 17604763866506897709 0 Alu false false (bytes "beq x3") (some (bytes "page fault")) (some (97 ∷ 98 ∷ 127 ∷
+    ∷ shown (fetch (op 17604763866506897709 0 Alu false false (bytes "beq x3") (Some (bytes "page fault")) (Some (97 ∷ 98 ∷ 127 ∷
     [])) (bytes "x0" ∷ bytes "x4" ∷ bytes "x0" ∷ bytes "x1" ∷ bytes " x 1" ∷ bytes "x6" ∷ bytes "x3" ∷ bytes "x6" ∷ bytes "x6" ∷ [])
     (bytes "x1" ∷ bytes "x2" ∷ bytes "x2" ∷ bytes "x7" ∷ bytes "x4" ∷ []) 637) 400) ∷ shown (text (slot_text (in_stage
     18446744073709551615) (source 0)) 0) ∷ shown retire ∷ shown (text (row_disassembly 1) 7) ∷ shown (overlap true) ∷ shown (retry
     (bytes "waiting")) ∷ shown (retry (bytes "waiting"))
-    ∷ shown (fetch (op 17604763866506897709 6 Store false false (bytes "? x2") none (some (bytes "x0")) (bytes "x0" ∷ bytes "x5" ∷
+    ∷ shown (fetch (op 17604763866506897709 6 Store false false (bytes "? x2") None (Some (bytes "x0")) (bytes "x0" ∷ bytes "x5" ∷
     bytes "x5" ∷ bytes "x1" ∷ bytes "x1" ∷ bytes "x0" ∷ bytes "x5" ∷ bytes "c.0" ∷ bytes "x1" ∷ []) (bytes "x0" ∷ bytes " x 1" ∷ [])
-    739) 400) ∷ shown (view (trace 0)) ∷ shown (advance none 400)
-    ∷ shown (fetch (op 17604763866506897709 6 Alu false false (bytes "mul x0") none (some (bytes "sixteen-bytes-ok")) (bytes "x4" ∷
+    739) 400) ∷ shown (view (trace 0)) ∷ shown (advance None 400)
+    ∷ shown (fetch (op 17604763866506897709 6 Alu false false (bytes "mul x0") None (Some (bytes "sixteen-bytes-ok")) (bytes "x4" ∷
     []) [] 1) 405) ∷ shown (text (slot_text (in_stage 1) disassembly) 7)
-    ∷ shown start ∷ shown (advance none 400)
+    ∷ shown start ∷ shown (advance None 400)
     ∷ shown start ∷ shown (cell 0 0 400) ∷ shown retire ∷ shown (text (operand_register 3 0) 200) ∷ shown (text (station_label 2) 0)
     ∷ shown (resolve 112) ∷ shown (retry (bytes "zzzzzzzzzzzzzzzzzzzzzzzzzzzzzzzzzzzzzzzzzzzzzzzzzzzzzzzzzzzzzzzzz")) ∷ shown
-    (advance none 400)
-    ∷ shown (fetch (op 17604763866506897715 14 Divide false false (bytes "lw x1") none (some (bytes "x2")) (bytes "x6" ∷ bytes "x6" ∷
+    (advance None 400)
+    ∷ shown (fetch (op 17604763866506897715 14 Divide false false (bytes "lw x1") None (Some (bytes "x2")) (bytes "x6" ∷ bytes "x6" ∷
     bytes "x5" ∷ []) (bytes "x2" ∷ []) 303) 400)
-    ∷ shown start ∷ shown (resolve 13683309356205069886) ∷ shown (advance none 400) ∷ shown (text (unit_name 1) 3) ∷ shown (text
+    ∷ shown start ∷ shown (resolve 13683309356205069886) ∷ shown (advance None 400) ∷ shown (text (unit_name 1) 3) ∷ shown (text
     (stage_name 0) 2) ∷ shown (text (stage_name 3) 2)
-    ∷ shown start ∷ shown (fault (bytes "waiting")) ∷ shown retire ∷ shown (advance none 400) ∷ shown (resolve 124) ∷ shown (text
+    ∷ shown start ∷ shown (fault (bytes "waiting")) ∷ shown retire ∷ shown (advance None 400) ∷ shown (resolve 124) ∷ shown (text
     (cell_label 7) 0)
     ∷ rest ∷ []
 

@@ -1,6 +1,5 @@
 -- List 32 of the sample, from seed 1392. Made by the harness: see docs/SAMPLES.md.
-use Rattle.std.specs.Prelude.{ℕ, true, false, List, [], ◌∷◌}
-use Rattle.std.proofs.Math.Option.{none, some}
+use Rattle.std.specs.Prelude.{ℕ, true, false, List, [], ◌∷◌, None, Some}
 use Rattle.laws.specs.Texts.{bytes}
 use Rattle.capability.specs.declared.PipelineInstructionClass.TheVariants.{
   Alu,
@@ -19,111 +18,111 @@ use Rattle.capability.specs.declared.PipelineStageRole.TheVariants as role
 
 abbrev shape : PipelineShape
 shape =
-    pipeline_shape (role.Decode ∷ role.Decode ∷ role.Execute ∷ []) (some 18446744073709551615) (timing 0 9 14 1 0 4 0) (unit_spec
+    pipeline_shape (role.Decode ∷ role.Decode ∷ role.Execute ∷ []) (Some 18446744073709551615) (timing 0 9 14 1 0 4 0) (unit_spec
     (bytes "MUL") [] Branch 5 ∷ []) 2
 
 abbrev steps : List Step
 steps =
     shown (overlap true)
-    ∷ shown start ∷ shown (advance none 400)
-    ∷ shown (fetch (op 4263557633 9 Load false false (bytes "sw x7") none (some (bytes "shown")) [] ([] ∷ []) 449) 400)
-    ∷ shown start ∷ shown (advance none 400)
-    ∷ shown (fetch (op 4263557632 12 Load false false (bytes "  add  x1 ") none (some (bytes "sixteen-bytes-ok")) ([] ∷ bytes "x1" ∷
+    ∷ shown start ∷ shown (advance None 400)
+    ∷ shown (fetch (op 4263557633 9 Load false false (bytes "sw x7") None (Some (bytes "shown")) [] ([] ∷ []) 449) 400)
+    ∷ shown start ∷ shown (advance None 400)
+    ∷ shown (fetch (op 4263557632 12 Load false false (bytes "  add  x1 ") None (Some (bytes "sixteen-bytes-ok")) ([] ∷ bytes "x1" ∷
     []) (bytes "x5" ∷ bytes "x7" ∷ bytes "x8" ∷ []) 374) 400)
-    ∷ shown start ∷ shown (advance none 400)
-    ∷ shown (fetch (op 4263557631 8 Alu false true (bytes "sub x3") (some
-    (bytes "ffffffffffffffffffffffffffffffffffffffffffffffffffffffffffffffff")) (some []) [] [] 202) 400)
-    ∷ shown start ∷ shown (advance none 400)
-    ∷ shown (fetch (op 4263557630 6 Divide false false (bytes "sw x8") none (some []) (bytes "x0" ∷ []) (bytes "x3" ∷ []) 827) 400)
-    ∷ shown start ∷ shown (advance none 400)
-    ∷ shown (fetch (op 4263557629 2 Load false false (bytes "? x1") none none (bytes "x0" ∷ bytes "x8" ∷ []) [] 18446744073709551615)
+    ∷ shown start ∷ shown (advance None 400)
+    ∷ shown (fetch (op 4263557631 8 Alu false true (bytes "sub x3") (Some
+    (bytes "ffffffffffffffffffffffffffffffffffffffffffffffffffffffffffffffff")) (Some []) [] [] 202) 400)
+    ∷ shown start ∷ shown (advance None 400)
+    ∷ shown (fetch (op 4263557630 6 Divide false false (bytes "sw x8") None (Some []) (bytes "x0" ∷ []) (bytes "x3" ∷ []) 827) 400)
+    ∷ shown start ∷ shown (advance None 400)
+    ∷ shown (fetch (op 4263557629 2 Load false false (bytes "? x1") None None (bytes "x0" ∷ bytes "x8" ∷ []) [] 18446744073709551615)
     400)
-    ∷ shown start ∷ shown (advance none 400)
-    ∷ shown (fetch (op 4263557628 5 Unknown false false (bytes "add x6") none (some (bytes "x7")) (bytes "x0" ∷ []) (bytes "x7" ∷ [])
+    ∷ shown start ∷ shown (advance None 400)
+    ∷ shown (fetch (op 4263557628 5 Unknown false false (bytes "add x6") None (Some (bytes "x7")) (bytes "x0" ∷ []) (bytes "x7" ∷ [])
     111) 400)
-    ∷ shown start ∷ shown retire ∷ shown (advance none 400)
-    ∷ shown (fetch (op 4263557627 5 Load false false (bytes "sub x8") none (some (bytes "rflags")) ([] ∷ bytes "x3" ∷ [])
+    ∷ shown start ∷ shown retire ∷ shown (advance None 400)
+    ∷ shown (fetch (op 4263557627 5 Load false false (bytes "sub x8") None (Some (bytes "rflags")) ([] ∷ bytes "x3" ∷ [])
     (bytes "rflags" ∷ bytes "x7" ∷ bytes "rflags" ∷ []) 619) 400)
-    ∷ shown start ∷ shown (retry []) ∷ shown (advance none 400)
-    ∷ shown start ∷ shown retire ∷ shown (advance none 400)
-    ∷ shown start ∷ shown (advance none 400)
-    ∷ shown start ∷ shown retire ∷ shown (advance none 400)
-    ∷ shown (fetch (op 4263557626 2 Multiply false false (bytes "lw x8") none (some (97 ∷ 98 ∷ 127 ∷ [])) (bytes "x3" ∷ bytes "x7" ∷
+    ∷ shown start ∷ shown (retry []) ∷ shown (advance None 400)
+    ∷ shown start ∷ shown retire ∷ shown (advance None 400)
+    ∷ shown start ∷ shown (advance None 400)
+    ∷ shown start ∷ shown retire ∷ shown (advance None 400)
+    ∷ shown (fetch (op 4263557626 2 Multiply false false (bytes "lw x8") None (Some (97 ∷ 98 ∷ 127 ∷ [])) (bytes "x3" ∷ bytes "x7" ∷
     bytes "x1" ∷ bytes "x1" ∷ bytes "x3" ∷ [] ∷ bytes " x 1" ∷ bytes "x7" ∷ bytes "x5" ∷ []) (bytes "x6" ∷ bytes "a.0" ∷ bytes "x3" ∷
     []) 227) 400)
-    ∷ shown (fetch (op 4263557626 3 Store false false (bytes "   ") none (some []) (bytes "x5" ∷ []) (bytes "x6" ∷ []) 907) 400)
-    ∷ shown start ∷ shown (advance none 400)
-    ∷ shown start ∷ shown (advance none 400)
-    ∷ shown start ∷ shown (advance none 400)
-    ∷ shown start ∷ shown retire ∷ shown (advance none 400)
-    ∷ shown start ∷ shown retire ∷ shown (advance none 400)
+    ∷ shown (fetch (op 4263557626 3 Store false false (bytes "   ") None (Some []) (bytes "x5" ∷ []) (bytes "x6" ∷ []) 907) 400)
+    ∷ shown start ∷ shown (advance None 400)
+    ∷ shown start ∷ shown (advance None 400)
+    ∷ shown start ∷ shown (advance None 400)
+    ∷ shown start ∷ shown retire ∷ shown (advance None 400)
+    ∷ shown start ∷ shown retire ∷ shown (advance None 400)
     ∷ shown (fetch (op 4263557625 1 Multiply false false (bytes "~~~~~~~~~~~~~~~~~~~~~~~~~~~~~~~~~~~~~~~~~~~~~~~~~~~~~~~~~~~~~~~~")
-    (some []) (some []) [] [] 440) 400)
-    ∷ shown start ∷ shown (advance none 400)
-    ∷ shown (fetch (op 4263557624 6 Alu false false (bytes "? x4") none (some (bytes "x5")) (bytes "x1" ∷ bytes "x0" ∷ bytes "x1" ∷
+    (Some []) (Some []) [] [] 440) 400)
+    ∷ shown start ∷ shown (advance None 400)
+    ∷ shown (fetch (op 4263557624 6 Alu false false (bytes "? x4") None (Some (bytes "x5")) (bytes "x1" ∷ bytes "x0" ∷ bytes "x1" ∷
     bytes "x0" ∷ bytes "x5" ∷ bytes "x8" ∷ bytes "x6" ∷ bytes "x6" ∷ []) (bytes "x5" ∷ bytes "x2" ∷ bytes "x3" ∷ bytes "x6" ∷ [])
     345) 400)
-    ∷ shown start ∷ shown (advance none 405)
-    ∷ shown (fetch (op 4263557623 0 Store false false (bytes "sub x4") none (some (bytes "x7")) (bytes "x6" ∷ []) (bytes "x7" ∷ [])
+    ∷ shown start ∷ shown (advance None 405)
+    ∷ shown (fetch (op 4263557623 0 Store false false (bytes "sub x4") None (Some (bytes "x7")) (bytes "x6" ∷ []) (bytes "x7" ∷ [])
     1) 400)
-    ∷ shown start ∷ shown (advance none 400)
-    ∷ shown start ∷ shown (advance none 400)
-    ∷ shown start ∷ shown (capacity 0 0) ∷ shown (advance none 400)
-    ∷ shown start ∷ shown (advance none 400)
-    ∷ shown start ∷ shown retire ∷ shown (advance none 400)
-    ∷ shown start ∷ shown (advance none 400)
-    ∷ shown start ∷ shown (advance none 400)
-    ∷ shown start ∷ shown (advance none 400)
-    ∷ shown start ∷ shown retire ∷ shown (advance none 400)
-    ∷ shown start ∷ shown (resolve 20) ∷ shown retire ∷ shown (advance none 400)
-    ∷ shown (fetch (op 4263557622 6 Store false false (bytes "mul x5") none (some (bytes "x6")) (bytes "x6" ∷ bytes "x0" ∷ bytes "x6"
+    ∷ shown start ∷ shown (advance None 400)
+    ∷ shown start ∷ shown (advance None 400)
+    ∷ shown start ∷ shown (capacity 0 0) ∷ shown (advance None 400)
+    ∷ shown start ∷ shown (advance None 400)
+    ∷ shown start ∷ shown retire ∷ shown (advance None 400)
+    ∷ shown start ∷ shown (advance None 400)
+    ∷ shown start ∷ shown (advance None 400)
+    ∷ shown start ∷ shown (advance None 400)
+    ∷ shown start ∷ shown retire ∷ shown (advance None 400)
+    ∷ shown start ∷ shown (resolve 20) ∷ shown retire ∷ shown (advance None 400)
+    ∷ shown (fetch (op 4263557622 6 Store false false (bytes "mul x5") None (Some (bytes "x6")) (bytes "x6" ∷ bytes "x0" ∷ bytes "x6"
     ∷ bytes "x8" ∷ []) (bytes "x6" ∷ bytes "x8" ∷ []) 375) 400)
-    ∷ shown start ∷ shown (advance none 400)
-    ∷ shown (fetch (op 4263557621 13 Load false false (bytes "sw x9") none none (bytes "x8" ∷ bytes "x3" ∷ bytes "x6" ∷ []) [] 321)
+    ∷ shown start ∷ shown (advance None 400)
+    ∷ shown (fetch (op 4263557621 13 Load false false (bytes "sw x9") None None (bytes "x8" ∷ bytes "x3" ∷ bytes "x6" ∷ []) [] 321)
     399)
-    ∷ shown (fetch (op 4263557621 0 FloatingPoint false false (bytes "add x8") none (some (bytes "shown")) [] (bytes "x0" ∷ []) 314)
+    ∷ shown (fetch (op 4263557621 0 FloatingPoint false false (bytes "add x8") None (Some (bytes "shown")) [] (bytes "x0" ∷ []) 314)
     400)
-    ∷ shown start ∷ shown (advance none 400)
-    ∷ shown start ∷ shown retire ∷ shown (advance none 400)
-    ∷ shown start ∷ shown retire ∷ shown (advance none 400)
-    ∷ shown (fetch (op 4263557620 1 Load false false (32 ∷ 126 ∷ 92 ∷ 34 ∷ []) none (some (128 ∷ [])) (bytes "x3" ∷
+    ∷ shown start ∷ shown (advance None 400)
+    ∷ shown start ∷ shown retire ∷ shown (advance None 400)
+    ∷ shown start ∷ shown retire ∷ shown (advance None 400)
+    ∷ shown (fetch (op 4263557620 1 Load false false (32 ∷ 126 ∷ 92 ∷ 34 ∷ []) None (Some (128 ∷ [])) (bytes "x3" ∷
     bytes "sixteen-bytes-ok" ∷ bytes "x5" ∷ bytes "x3" ∷ bytes "x5" ∷ [] ∷ bytes "x4" ∷ bytes "sixteen-bytes-ok" ∷ bytes "x4" ∷ [])
     [] 0) 400)
-    ∷ shown start ∷ shown (advance none 400)
-    ∷ shown (fetch (op 4263557620 1 Multiply false false (bytes "div x2") none (some (bytes "x3")) (bytes "x7" ∷ bytes "x2" ∷ [])
+    ∷ shown start ∷ shown (advance None 400)
+    ∷ shown (fetch (op 4263557620 1 Multiply false false (bytes "div x2") None (Some (bytes "x3")) (bytes "x7" ∷ bytes "x2" ∷ [])
     (bytes "x3" ∷ []) 97) 400) ∷ shown (overlap true)
-    ∷ shown start ∷ shown (advance none 400)
-    ∷ shown (fetch (op 4263557619 11 Load false false (bytes "sw x6") none (some (bytes "zzzzzzzzzzzzzzzzz")) (bytes "x8" ∷
+    ∷ shown start ∷ shown (advance None 400)
+    ∷ shown (fetch (op 4263557619 11 Load false false (bytes "sw x6") None (Some (bytes "zzzzzzzzzzzzzzzzz")) (bytes "x8" ∷
     bytes "x8" ∷ []) (bytes "x7" ∷ bytes "x2" ∷ []) 845) 400)
-    ∷ shown (fetch (op 4263557619 15 Unknown false false (bytes "nop x1") none none (bytes "x5" ∷ bytes "x4" ∷ bytes "x6" ∷ [])
+    ∷ shown (fetch (op 4263557619 15 Unknown false false (bytes "nop x1") None None (bytes "x5" ∷ bytes "x4" ∷ bytes "x6" ∷ [])
     (bytes "x3" ∷ bytes "x7" ∷ bytes "x4" ∷ []) 750) 400)
-    ∷ shown start ∷ shown retire ∷ shown (advance none 400)
-    ∷ shown start ∷ shown retire ∷ shown (advance none 400)
-    ∷ shown (fetch (op 4263557618 5 Multiply false true (34 ∷ 113 ∷ 34 ∷ 32 ∷ 120 ∷ 52 ∷ []) none (some []) (bytes "x2" ∷
+    ∷ shown start ∷ shown retire ∷ shown (advance None 400)
+    ∷ shown start ∷ shown retire ∷ shown (advance None 400)
+    ∷ shown (fetch (op 4263557618 5 Multiply false true (34 ∷ 113 ∷ 34 ∷ 32 ∷ 120 ∷ 52 ∷ []) None (Some []) (bytes "x2" ∷
     bytes "rflags" ∷ []) (bytes "x7" ∷ bytes "x1" ∷ []) 298) 400)
-    ∷ shown start ∷ shown retire ∷ shown (advance none 400)
-    ∷ shown start ∷ shown (advance none 400)
-    ∷ shown start ∷ shown (advance none 400)
-    ∷ shown start ∷ shown (advance none 400)
-    ∷ shown start ∷ shown (advance (some 116) 400)
-    ∷ shown (fetch (op 116 0 Store false false (bytes "add x7") none (some (bytes "x0")) (bytes "x1" ∷ []) (bytes "x0" ∷ []) 843) 400)
-    ∷ shown start ∷ shown (advance none 400)
-    ∷ shown (fetch (op 115 0 Alu false false (bytes "sub x8") (some []) none (bytes "x0" ∷ bytes "x6" ∷ []) [] 24) 400)
-    ∷ shown start ∷ shown (advance none 400)
-    ∷ shown (fetch (op 114 11 Store false false (bytes "beq x6") (some (bytes "page fault")) none (bytes "x3" ∷ []) (bytes "x8" ∷ [])
+    ∷ shown start ∷ shown retire ∷ shown (advance None 400)
+    ∷ shown start ∷ shown (advance None 400)
+    ∷ shown start ∷ shown (advance None 400)
+    ∷ shown start ∷ shown (advance None 400)
+    ∷ shown start ∷ shown (advance (Some 116) 400)
+    ∷ shown (fetch (op 116 0 Store false false (bytes "add x7") None (Some (bytes "x0")) (bytes "x1" ∷ []) (bytes "x0" ∷ []) 843) 400)
+    ∷ shown start ∷ shown (advance None 400)
+    ∷ shown (fetch (op 115 0 Alu false false (bytes "sub x8") (Some []) None (bytes "x0" ∷ bytes "x6" ∷ []) [] 24) 400)
+    ∷ shown start ∷ shown (advance None 400)
+    ∷ shown (fetch (op 114 11 Store false false (bytes "beq x6") (Some (bytes "page fault")) None (bytes "x3" ∷ []) (bytes "x8" ∷ [])
     81) 400)
-    ∷ shown start ∷ shown (advance none 400)
-    ∷ shown (fetch (op 113 14 Multiply false false (bytes "xor x8") none (some (bytes "x8")) (bytes "x2" ∷ bytes "x6" ∷ bytes "x5" ∷
+    ∷ shown start ∷ shown (advance None 400)
+    ∷ shown (fetch (op 113 14 Multiply false false (bytes "xor x8") None (Some (bytes "x8")) (bytes "x2" ∷ bytes "x6" ∷ bytes "x5" ∷
     []) (bytes "x8" ∷ []) 657) 400)
-    ∷ shown start ∷ shown (advance none 400)
-    ∷ shown (fetch (op 112 4 FloatingPoint false false (bytes "beq x7") none (some (bytes "sixteen-bytes-ok")) (bytes "x0" ∷
+    ∷ shown start ∷ shown (advance None 400)
+    ∷ shown (fetch (op 112 4 FloatingPoint false false (bytes "beq x7") None (Some (bytes "sixteen-bytes-ok")) (bytes "x0" ∷
     bytes "x1" ∷ bytes "x7" ∷ []) [] 959) 400)
     ∷ shown start
-    ∷ shown start ∷ shown retire ∷ shown (advance none 400)
-    ∷ shown start ∷ shown retire ∷ shown (advance none 400)
-    ∷ shown start ∷ shown (advance none 214) ∷ shown (advance none 400)
-    ∷ shown start ∷ shown retire ∷ shown (advance none 400)
-    ∷ shown start ∷ shown retire ∷ shown (advance none 400)
+    ∷ shown start ∷ shown retire ∷ shown (advance None 400)
+    ∷ shown start ∷ shown retire ∷ shown (advance None 400)
+    ∷ shown start ∷ shown (advance None 214) ∷ shown (advance None 400)
+    ∷ shown start ∷ shown retire ∷ shown (advance None 400)
+    ∷ shown start ∷ shown retire ∷ shown (advance None 400)
     ∷ rest ∷ []
 
 abbrev numbers : List ℕ

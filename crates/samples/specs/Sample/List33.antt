@@ -1,6 +1,5 @@
 -- List 33 of the sample, from seed 71. Made by the harness: see docs/SAMPLES.md.
-use Rattle.std.specs.Prelude.{ℕ, true, false, List, [], ◌∷◌}
-use Rattle.std.proofs.Math.Option.{none, some}
+use Rattle.std.specs.Prelude.{ℕ, true, false, List, [], ◌∷◌, None, Some}
 use Rattle.laws.specs.Texts.{bytes}
 use Rattle.capability.specs.declared.PipelineInstructionClass.TheVariants.{Alu, Multiply, Divide, Load, Store}
 use Rattle.model.specs.Config.{timing, unit_spec, PipelineShape, pipeline_shape}
@@ -41,61 +40,61 @@ use Rattle.capability.specs.declared.PipelineStageRole.TheVariants as role
 
 abbrev shape : PipelineShape
 shape =
-    pipeline_shape (role.Writeback ∷ role.Execute ∷ role.Memory ∷ []) (some 4) (timing 8 5 0 0 5 5 0) (unit_spec (bytes " ") []
+    pipeline_shape (role.Writeback ∷ role.Execute ∷ role.Memory ∷ []) (Some 4) (timing 8 5 0 0 5 5 0) (unit_spec (bytes " ") []
     Divide 0 ∷ []) 4
 
 abbrev steps : List Step
 steps =
     shown (overlap true) ∷ shown (capacity 0 0)
-    ∷ shown start ∷ shown (advance none 800)
-    ∷ shown (fetch (op 0 11 Store false false (bytes "ecall x2") none (some (bytes "sixteen-bytes-ok")) (bytes "x2" ∷ bytes "x7" ∷
+    ∷ shown start ∷ shown (advance None 800)
+    ∷ shown (fetch (op 0 11 Store false false (bytes "ecall x2") None (Some (bytes "sixteen-bytes-ok")) (bytes "x2" ∷ bytes "x7" ∷
     bytes "x4" ∷ bytes "x4" ∷ bytes "rflags" ∷ bytes "x3" ∷ bytes "x2" ∷ bytes "x1" ∷ bytes "x2" ∷ []) (bytes "x6" ∷ []) 564) 800) ∷
     shown retire ∷ shown (cell 0 0 399) ∷ shown (text (slot_text (in_unit 0) (source 0)) 0) ∷ shown (text (slot_text (in_queue
     18446744073709551615) (write 0)) 1)
-    ∷ shown (fetch (op 0 0 Load false false (34 ∷ 113 ∷ 34 ∷ 32 ∷ 120 ∷ 49 ∷ []) (some
-    (bytes "zzzzzzzzzzzzzzzzzzzzzzzzzzzzzzzzzzzzzzzzzzzzzzzzzzzzzzzzzzzzzzzzz")) (some (bytes "a.0")) [] (bytes "a.0" ∷ []) 1) 800) ∷
+    ∷ shown (fetch (op 0 0 Load false false (34 ∷ 113 ∷ 34 ∷ 32 ∷ 120 ∷ 49 ∷ []) (Some
+    (bytes "zzzzzzzzzzzzzzzzzzzzzzzzzzzzzzzzzzzzzzzzzzzzzzzzzzzzzzzzzzzzzzzzz")) (Some (bytes "a.0")) [] (bytes "a.0" ∷ []) 1) 800) ∷
     shown retire
-    ∷ shown (fetch (op 0 15 Multiply false false (bytes "xor x8") (some
-    (bytes "ffffffffffffffffffffffffffffffffffffffffffffffffffffffffffffffff")) (some []) (bytes "x2" ∷ bytes "x3" ∷ bytes "x4" ∷
+    ∷ shown (fetch (op 0 15 Multiply false false (bytes "xor x8") (Some
+    (bytes "ffffffffffffffffffffffffffffffffffffffffffffffffffffffffffffffff")) (Some []) (bytes "x2" ∷ bytes "x3" ∷ bytes "x4" ∷
     bytes "x6" ∷ bytes "x2" ∷ bytes "x4" ∷ bytes "x1" ∷ bytes "x5" ∷ []) (bytes "x6" ∷ bytes "x2" ∷ bytes "x0" ∷ bytes "x6" ∷ [])
     955) 800)
-    ∷ shown start ∷ shown (advance none 800)
-    ∷ shown (fetch (op 4 8 Store false false (bytes "   ") (some
-    (bytes "ffffffffffffffffffffffffffffffffffffffffffffffffffffffffffffffff")) (some (bytes "shown")) (bytes "x6" ∷ bytes "x1" ∷ [])
+    ∷ shown start ∷ shown (advance None 800)
+    ∷ shown (fetch (op 4 8 Store false false (bytes "   ") (Some
+    (bytes "ffffffffffffffffffffffffffffffffffffffffffffffffffffffffffffffff")) (Some (bytes "shown")) (bytes "x6" ∷ bytes "x1" ∷ [])
     (bytes "x2" ∷ bytes "x4" ∷ bytes "x5" ∷ []) 892) 800)
-    ∷ shown start ∷ shown (advance none 800)
-    ∷ shown start ∷ shown (cell 3 0 800) ∷ shown (advance none 800)
-    ∷ shown start ∷ shown (advance none 800)
-    ∷ shown start ∷ shown retire ∷ shown (advance none 800)
-    ∷ shown start ∷ shown (advance none 800)
-    ∷ shown start ∷ shown (text (trace_detail 0) 0) ∷ shown halt ∷ shown (advance none 800)
-    ∷ shown start ∷ shown (advance (some 9930876416839404254) 800) ∷ shown (capacity 1 3)
-    ∷ shown start ∷ shown (advance none 800) ∷ shown (advance none 0) ∷ shown (view status) ∷ shown (advance (some
+    ∷ shown start ∷ shown (advance None 800)
+    ∷ shown start ∷ shown (cell 3 0 800) ∷ shown (advance None 800)
+    ∷ shown start ∷ shown (advance None 800)
+    ∷ shown start ∷ shown retire ∷ shown (advance None 800)
+    ∷ shown start ∷ shown (advance None 800)
+    ∷ shown start ∷ shown (text (trace_detail 0) 0) ∷ shown halt ∷ shown (advance None 800)
+    ∷ shown start ∷ shown (advance (Some 9930876416839404254) 800) ∷ shown (capacity 1 3)
+    ∷ shown start ∷ shown (advance None 800) ∷ shown (advance None 0) ∷ shown (view status) ∷ shown (advance (Some
     17438826007650544234) 800)
     ∷ shown start ∷ shown (reset 18446744073709551615 800)
-    ∷ shown start ∷ shown (advance none 800)
-    ∷ shown (fetch (op 18446744073709551615 1 Load false false (bytes "mul x8") none none [] [] 877) 800) ∷ shown (overlap true)
+    ∷ shown start ∷ shown (advance None 800)
+    ∷ shown (fetch (op 18446744073709551615 1 Load false false (bytes "mul x8") None None [] [] 877) 800) ∷ shown (overlap true)
     ∷ shown start ∷ shown (view (queued 0)) ∷ shown (capacity 0 18446744073709551615)
-    ∷ shown (fetch (op 3 7 Divide false false (bytes "mul x2") none (some (bytes "x1")) (bytes "x2" ∷ bytes "x4" ∷ bytes "x7" ∷
+    ∷ shown (fetch (op 3 7 Divide false false (bytes "mul x2") None (Some (bytes "x1")) (bytes "x2" ∷ bytes "x4" ∷ bytes "x7" ∷
     bytes "x4" ∷ bytes "x0" ∷ bytes "x3" ∷ bytes "x7" ∷ bytes "x6" ∷ bytes "x1" ∷ []) (bytes "x1" ∷ []) 876) 800) ∷ shown (advance
-    none 800) ∷ shown retire
-    ∷ shown (fetch (op 3 7 Alu false false (bytes "? x6") (some []) none (bytes "x3" ∷ []) (bytes "x3" ∷ []) 176) 800) ∷ shown (view
+    None 800) ∷ shown retire
+    ∷ shown (fetch (op 3 7 Alu false false (bytes "? x6") (Some []) None (bytes "x3" ∷ []) (bytes "x3" ∷ []) 176) 800) ∷ shown (view
     (stage 1)) ∷ shown retire ∷ shown (text (cell_label 24) 0) ∷ shown (capacity 18446744073709551615 1) ∷ shown (resolve
     13219608466198430684)
     ∷ shown start
-    ∷ shown (fetch (op 7 2 Load false false (bytes "xor x9") (some
-    (bytes "zzzzzzzzzzzzzzzzzzzzzzzzzzzzzzzzzzzzzzzzzzzzzzzzzzzzzzzzzzzzzzzzz")) (some (bytes "sixteen-bytes-ok")) [] [] 835) 800) ∷
-    shown (advance none 800) ∷ shown retire ∷ shown (advance (some 252) 800)
-    ∷ shown start ∷ shown (advance none 800)
-    ∷ shown start ∷ shown (advance none 800) ∷ shown halt
-    ∷ shown start ∷ shown (advance none 800) ∷ shown (text (operand_register 0 3) 200)
-    ∷ shown start ∷ shown (advance none 800) ∷ shown retire ∷ shown (text (rename_register 0) 200) ∷ shown (text (unit_name 0) 1) ∷
+    ∷ shown (fetch (op 7 2 Load false false (bytes "xor x9") (Some
+    (bytes "zzzzzzzzzzzzzzzzzzzzzzzzzzzzzzzzzzzzzzzzzzzzzzzzzzzzzzzzzzzzzzzzz")) (Some (bytes "sixteen-bytes-ok")) [] [] 835) 800) ∷
+    shown (advance None 800) ∷ shown retire ∷ shown (advance (Some 252) 800)
+    ∷ shown start ∷ shown (advance None 800)
+    ∷ shown start ∷ shown (advance None 800) ∷ shown halt
+    ∷ shown start ∷ shown (advance None 800) ∷ shown (text (operand_register 0 3) 200)
+    ∷ shown start ∷ shown (advance None 800) ∷ shown retire ∷ shown (text (rename_register 0) 200) ∷ shown (text (unit_name 0) 1) ∷
     shown (text (slot_text (in_queue 1) (write 0)) 1) ∷ shown retire ∷ shown (cell 18446744073709551615 18446744073709551615 800) ∷
-    shown retire ∷ shown (text (cell_label 32) 1) ∷ shown (view (stage 3)) ∷ shown (text (row_disassembly 2) 1) ∷ shown (advance none
-    0) ∷ shown (advance (some 9223372036854775808) 0) ∷ shown (view stage_order)
-    ∷ shown start ∷ shown (advance (some 68) 800) ∷ shown (redirect 44)
+    shown retire ∷ shown (text (cell_label 32) 1) ∷ shown (view (stage 3)) ∷ shown (text (row_disassembly 2) 1) ∷ shown (advance None
+    0) ∷ shown (advance (Some 9223372036854775808) 0) ∷ shown (view stage_order)
+    ∷ shown start ∷ shown (advance (Some 68) 800) ∷ shown (redirect 44)
     ∷ shown start
-    ∷ shown (fetch (op 44 13 Load false false (bytes "xor x0") none (some (bytes "zzzzzzzzzzzzzzzzz")) (bytes "sixteen-bytes-ok" ∷
+    ∷ shown (fetch (op 44 13 Load false false (bytes "xor x0") None (Some (bytes "zzzzzzzzzzzzzzzzz")) (bytes "sixteen-bytes-ok" ∷
     bytes "x2" ∷ []) (bytes "x4" ∷ bytes "x5" ∷ bytes "x0" ∷ bytes "x4" ∷ []) 706) 800)
     ∷ rest ∷ []
 

@@ -1,6 +1,5 @@
 -- List 4 of the sample, from seed 603. Made by the harness: see docs/SAMPLES.md.
-use Rattle.std.specs.Prelude.{ℕ, List, [], ◌∷◌}
-use Rattle.std.proofs.Math.Option.{none}
+use Rattle.std.specs.Prelude.{ℕ, List, [], ◌∷◌, None}
 use Rattle.laws.specs.Texts.{bytes}
 use Rattle.capability.specs.declared.PipelineInstructionClass.TheVariants.{
   Alu,
@@ -21,7 +20,7 @@ use Rattle.capability.specs.declared.PipelineStageRole.TheVariants as role
 abbrev shape : PipelineShape
 shape =
     pipeline_shape (role.Decode ∷ role.Decode ∷ role.Other ∷ role.Other ∷ role.Execute ∷ role.Writeback ∷ role.Fetch ∷ role.Commit ∷
-    role.Commit ∷ role.Decode ∷ role.Memory ∷ role.Decode ∷ role.Fetch ∷ role.Decode ∷ []) none (timing 2 0 1 5 0 3 1) (unit_spec
+    role.Commit ∷ role.Decode ∷ role.Memory ∷ role.Decode ∷ role.Fetch ∷ role.Decode ∷ []) None (timing 2 0 1 5 0 3 1) (unit_spec
     (bytes "DIV") [] Multiply 1 ∷ unit_spec (bytes "A") [] Jump 1 ∷ unit_spec (126 ∷ 34 ∷ 92 ∷ 120 ∷ []) [] FloatingPoint 1 ∷
     unit_spec (bytes "WR") [] FloatingPoint 1 ∷ unit_spec (bytes " ") [] Store 1 ∷ unit_spec (bytes " ") (Load ∷ Divide ∷ Divide ∷
     []) Alu 1 ∷ unit_spec (bytes "FPU") [] Load 1 ∷ unit_spec (bytes "SYS") (Load ∷ []) Jump 1 ∷ unit_spec (bytes "IF") (Load ∷

@@ -1,6 +1,5 @@
 -- List 5 of the sample, from seed 1566. Made by the harness: see docs/SAMPLES.md.
-use Rattle.std.specs.Prelude.{ℕ, true, false, List, [], ◌∷◌}
-use Rattle.std.proofs.Math.Option.{none, some}
+use Rattle.std.specs.Prelude.{ℕ, true, false, List, [], ◌∷◌, None, Some}
 use Rattle.laws.specs.Texts.{bytes}
 use Rattle.capability.specs.declared.PipelineInstructionClass.TheVariants.{Alu, Multiply, Divide, Load, Store, Branch, System, Unknown}
 use Rattle.model.specs.Config.{timing, unit_spec, PipelineShape, pipeline_shape}
@@ -47,65 +46,65 @@ use Rattle.capability.specs.declared.PipelineStageRole.TheVariants as role
 abbrev shape : PipelineShape
 shape =
     pipeline_shape (role.Issue ∷ role.Execute ∷ role.Fetch ∷ role.Issue ∷ role.Writeback ∷ role.Commit ∷ role.Other ∷ role.Fetch ∷
-    role.Other ∷ role.Memory ∷ role.Memory ∷ role.Writeback ∷ role.Fetch ∷ role.Other ∷ role.Other ∷ []) (some 4) (timing 1 5 1 8 0 3
+    role.Other ∷ role.Memory ∷ role.Memory ∷ role.Writeback ∷ role.Fetch ∷ role.Other ∷ role.Other ∷ []) (Some 4) (timing 1 5 1 8 0 3
     0) (unit_spec (bytes "LSU") (System ∷ Divide ∷ Store ∷ Branch ∷ Unknown ∷ System ∷ Load ∷ Branch ∷ Alu ∷ Unknown ∷ []) Unknown 2
     ∷ []) 2
 
 abbrev steps : List Step
 steps =
     shown (overlap true)
-    ∷ shown start ∷ shown (cell 0 0 400) ∷ shown (cell 0 0 400) ∷ shown (advance none 400)
-    ∷ shown (fetch (op 0 11 Multiply false false (bytes "add x5") none (some (bytes "x1")) [] (bytes "x1" ∷ []) 516) 400) ∷ shown
+    ∷ shown start ∷ shown (cell 0 0 400) ∷ shown (cell 0 0 400) ∷ shown (advance None 400)
+    ∷ shown (fetch (op 0 11 Multiply false false (bytes "add x5") None (Some (bytes "x1")) [] (bytes "x1" ∷ []) 516) 400) ∷ shown
     (resolve 212)
-    ∷ shown start ∷ shown halt ∷ shown (capacity 0 65) ∷ shown (advance none 400)
-    ∷ shown start ∷ shown (overlap false) ∷ shown (advance none 400) ∷ shown (capacity 0 18446744073709551615) ∷ shown (view (rename
+    ∷ shown start ∷ shown halt ∷ shown (capacity 0 65) ∷ shown (advance None 400)
+    ∷ shown start ∷ shown (overlap false) ∷ shown (advance None 400) ∷ shown (capacity 0 18446744073709551615) ∷ shown (view (rename
     1))
     ∷ shown start
-    ∷ shown (fetch (op 4 15 Divide false false (bytes "? x2") none none [] (bytes "x6" ∷ bytes "x7" ∷ bytes "x1" ∷ bytes "x4" ∷ [])
-    974) 0) ∷ shown (capacity 0 3) ∷ shown (text (cell_label 9) 0) ∷ shown (advance none 400) ∷ shown (cell 0 0 400)
-    ∷ shown start ∷ shown (capacity 0 3) ∷ shown (advance none 400) ∷ shown (reset 1 400)
-    ∷ shown start ∷ shown (capacity 2 3) ∷ shown (advance none 400) ∷ shown halt ∷ shown (advance (some 248) 400) ∷ shown (resolve
+    ∷ shown (fetch (op 4 15 Divide false false (bytes "? x2") None None [] (bytes "x6" ∷ bytes "x7" ∷ bytes "x1" ∷ bytes "x4" ∷ [])
+    974) 0) ∷ shown (capacity 0 3) ∷ shown (text (cell_label 9) 0) ∷ shown (advance None 400) ∷ shown (cell 0 0 400)
+    ∷ shown start ∷ shown (capacity 0 3) ∷ shown (advance None 400) ∷ shown (reset 1 400)
+    ∷ shown start ∷ shown (capacity 2 3) ∷ shown (advance None 400) ∷ shown halt ∷ shown (advance (Some 248) 400) ∷ shown (resolve
     160) ∷ shown (view rename_count) ∷ shown (view resume_pc) ∷ shown (view trace_count) ∷ shown (view status)
     ∷ shown start ∷ shown (redirect 76) ∷ shown (text (cell_label 255) 0) ∷ shown (text (operand_register 0 2) 1) ∷ shown (text
     (station_label 0) 4) ∷ shown (view buffer_capacity)
     ∷ shown start
-    ∷ shown (fetch (op 76 8 System false false (97 ∷ 98 ∷ 127 ∷ []) none (some (bytes "x0")) (bytes " x 1" ∷ bytes "x6" ∷ bytes "x1"
-    ∷ []) (bytes "x0" ∷ bytes "x2" ∷ []) 898) 400) ∷ shown (advance none 400)
-    ∷ shown (fetch (op 76 4 Branch true false (bytes "div x1") none (some (bytes "x5")) (bytes "x0" ∷ bytes "x3" ∷ []) (bytes "x5" ∷
+    ∷ shown (fetch (op 76 8 System false false (97 ∷ 98 ∷ 127 ∷ []) None (Some (bytes "x0")) (bytes " x 1" ∷ bytes "x6" ∷ bytes "x1"
+    ∷ []) (bytes "x0" ∷ bytes "x2" ∷ []) 898) 400) ∷ shown (advance None 400)
+    ∷ shown (fetch (op 76 4 Branch true false (bytes "div x1") None (Some (bytes "x5")) (bytes "x0" ∷ bytes "x3" ∷ []) (bytes "x5" ∷
     []) 489) 400) ∷ shown (view (in_flight_before 0))
-    ∷ shown start ∷ shown (advance none 400) ∷ shown (capacity 0 3) ∷ shown (text (slot_text (in_unit 0) (write 5)) 0)
-    ∷ shown start ∷ shown (view (in_flight_before 0)) ∷ shown (advance none 400) ∷ shown (text status_message 0)
-    ∷ shown start ∷ shown (capacity 0 2) ∷ shown (advance none 400) ∷ shown (resolve 196)
-    ∷ shown start ∷ shown (text (trace_detail 0) 0) ∷ shown (advance none 400) ∷ shown (overlap false) ∷ shown (cell 1 0 400)
+    ∷ shown start ∷ shown (advance None 400) ∷ shown (capacity 0 3) ∷ shown (text (slot_text (in_unit 0) (write 5)) 0)
+    ∷ shown start ∷ shown (view (in_flight_before 0)) ∷ shown (advance None 400) ∷ shown (text status_message 0)
+    ∷ shown start ∷ shown (capacity 0 2) ∷ shown (advance None 400) ∷ shown (resolve 196)
+    ∷ shown start ∷ shown (text (trace_detail 0) 0) ∷ shown (advance None 400) ∷ shown (overlap false) ∷ shown (cell 1 0 400)
     ∷ shown start ∷ shown (resolve 80) ∷ shown (cell 0 1 400) ∷ shown retire ∷ shown (resolve 1029074110373462920) ∷ shown retire ∷
-    shown (advance (some 1029074110373462920) 400) ∷ shown (overlap false)
-    ∷ shown (fetch (op 1029074110373462920 12 Alu false false (bytes "sub x2") (some (bytes "page fault")) (some (bytes "x5"))
+    shown (advance (Some 1029074110373462920) 400) ∷ shown (overlap false)
+    ∷ shown (fetch (op 1029074110373462920 12 Alu false false (bytes "sub x2") (Some (bytes "page fault")) (Some (bytes "x5"))
     (bytes "x1" ∷ bytes "x6" ∷ bytes "x1" ∷ []) (bytes "x5" ∷ bytes "x2" ∷ []) 493) 400) ∷ shown retire
-    ∷ shown (fetch (op 1029074110373462924 3 Store false false (bytes "xor x0") none none (bytes "x1" ∷ bytes "x1" ∷ bytes "x1" ∷
+    ∷ shown (fetch (op 1029074110373462924 3 Store false false (bytes "xor x0") None None (bytes "x1" ∷ bytes "x1" ∷ bytes "x1" ∷
     bytes "x1" ∷ bytes "x1" ∷ bytes "x1" ∷ (97 ∷ 98 ∷ 127 ∷ []) ∷ []) [] 18446744073709551615) 0) ∷ shown (cell 3 1 400) ∷ shown
     (text (rename_register 0) 0)
-    ∷ shown start ∷ shown (overlap false) ∷ shown (advance none 400)
+    ∷ shown start ∷ shown (overlap false) ∷ shown (advance None 400)
     ∷ shown start ∷ shown (cell 2 0 405) ∷ shown (resolve 12) ∷ shown (cell 0 3 399) ∷ shown (cell 0 1 169)
-    ∷ shown (fetch (op 1029074110373462924 3 Unknown false true (bytes "sub x7") none none (bytes "x0" ∷ bytes "x7" ∷ bytes "x7" ∷
+    ∷ shown (fetch (op 1029074110373462924 3 Unknown false true (bytes "sub x7") None None (bytes "x0" ∷ bytes "x7" ∷ bytes "x7" ∷
     bytes "sixteen-bytes-ok" ∷ bytes "rflags" ∷ bytes "x1" ∷ bytes "x1" ∷ bytes "a.0" ∷ bytes "x1" ∷ []) [] 63) 400) ∷ shown (advance
-    none 400)
-    ∷ shown start ∷ shown (view (in_flight_before 1)) ∷ shown (advance none 400)
-    ∷ shown start ∷ shown (advance none 400)
-    ∷ shown start ∷ shown (view buffer_capacity) ∷ shown (advance none 400) ∷ shown (redirect 6210811920114447489) ∷ shown (text
+    None 400)
+    ∷ shown start ∷ shown (view (in_flight_before 1)) ∷ shown (advance None 400)
+    ∷ shown start ∷ shown (advance None 400)
+    ∷ shown start ∷ shown (view buffer_capacity) ∷ shown (advance None 400) ∷ shown (redirect 6210811920114447489) ∷ shown (text
     (trace_detail 0) 0) ∷ shown (text (row_disassembly 0) 5)
     ∷ shown start ∷ shown (resolve 132)
-    ∷ shown (fetch (op 6210811920114447489 9 Alu false false (bytes "  jal  x1 ") (some
-    (bytes "ffffffffffffffffffffffffffffffffffffffffffffffffffffffffffffffff")) (some (bytes "x7")) (bytes "x4" ∷ bytes "b.0" ∷ [])
-    (bytes " x 1" ∷ bytes "c.0" ∷ [] ∷ bytes "x3" ∷ bytes "x4" ∷ []) 194) 0) ∷ shown (overlap true) ∷ shown (advance none 400)
-    ∷ shown (fetch (op 6210811920114447489 6 System false false (bytes "nop x9") none (some (bytes "d.0")) (bytes "x7" ∷ bytes "x3" ∷
+    ∷ shown (fetch (op 6210811920114447489 9 Alu false false (bytes "  jal  x1 ") (Some
+    (bytes "ffffffffffffffffffffffffffffffffffffffffffffffffffffffffffffffff")) (Some (bytes "x7")) (bytes "x4" ∷ bytes "b.0" ∷ [])
+    (bytes " x 1" ∷ bytes "c.0" ∷ [] ∷ bytes "x3" ∷ bytes "x4" ∷ []) 194) 0) ∷ shown (overlap true) ∷ shown (advance None 400)
+    ∷ shown (fetch (op 6210811920114447489 6 System false false (bytes "nop x9") None (Some (bytes "d.0")) (bytes "x7" ∷ bytes "x3" ∷
     bytes "rflags" ∷ bytes "x2" ∷ bytes "x6" ∷ bytes "x1" ∷ [] ∷ bytes "x3" ∷ []) (bytes "d.0" ∷ bytes "x6" ∷ bytes "x6" ∷ bytes "x6"
     ∷ []) 530) 400) ∷ shown (text (slot_text (in_station 1) (source 1)) 0)
-    ∷ shown start ∷ shown (advance none 400)
+    ∷ shown start ∷ shown (advance None 400)
     ∷ shown (fetch (op 6210811920114447493 1 Alu false false
-    (bytes "ecall                                                           ") (some []) (some (bytes "x6")) (bytes "x7" ∷ bytes "x7"
+    (bytes "ecall                                                           ") (Some []) (Some (bytes "x6")) (bytes "x7" ∷ bytes "x7"
     ∷ []) (bytes "x6" ∷ []) 282) 400) ∷ shown (view stats) ∷ shown (capacity 0 3) ∷ shown (capacity 0 65) ∷ shown (capacity 0 4)
-    ∷ shown start ∷ shown (text (slot_text (in_station 18446744073709551615) (source 0)) 0) ∷ shown (advance none 400)
-    ∷ shown start ∷ shown (advance none 400)
+    ∷ shown start ∷ shown (text (slot_text (in_station 18446744073709551615) (source 0)) 0) ∷ shown (advance None 400)
+    ∷ shown start ∷ shown (advance None 400)
     ∷ shown start
     ∷ rest ∷ []
 

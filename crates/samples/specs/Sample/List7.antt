@@ -1,6 +1,5 @@
 -- List 7 of the sample, from seed 1866. Made by the harness: see docs/SAMPLES.md.
-use Rattle.std.specs.Prelude.{ℕ, true, false, List, [], ◌∷◌}
-use Rattle.std.proofs.Math.Option.{none, some}
+use Rattle.std.specs.Prelude.{ℕ, true, false, List, [], ◌∷◌, None, Some}
 use Rattle.laws.specs.Texts.{bytes}
 use Rattle.capability.specs.declared.PipelineInstructionClass.TheVariants.{Alu, Multiply, Divide, Load, Store, Jump, System, FloatingPoint}
 use Rattle.model.specs.Config.{timing, unit_spec, PipelineShape, pipeline_shape}
@@ -11,71 +10,71 @@ use Rattle.capability.specs.declared.PipelineStageRole.TheVariants as role
 abbrev shape : PipelineShape
 shape =
     pipeline_shape (role.Issue ∷ role.Execute ∷ role.Fetch ∷ role.Commit ∷ role.Other ∷ role.Memory ∷ role.Writeback ∷ role.Memory ∷
-    role.Writeback ∷ []) (some 0) (timing 0 2 0 0 8 3 1) (unit_spec (bytes "BR") (Load ∷ []) Multiply 2 ∷ unit_spec (bytes "EX")
+    role.Writeback ∷ []) (Some 0) (timing 0 2 0 0 8 3 1) (unit_spec (bytes "BR") (Load ∷ []) Multiply 2 ∷ unit_spec (bytes "EX")
     (Divide ∷ Load ∷ System ∷ []) System 1 ∷ unit_spec (bytes "FPU") [] Load 4 ∷ []) 2
 
 abbrev steps : List Step
 steps =
     shown (overlap true)
-    ∷ shown start ∷ shown (advance none 400)
-    ∷ shown (fetch (op 0 9 FloatingPoint false false (32 ∷ 126 ∷ 92 ∷ 34 ∷ []) (some (bytes "page fault")) (some (bytes "x2"))
+    ∷ shown start ∷ shown (advance None 400)
+    ∷ shown (fetch (op 0 9 FloatingPoint false false (32 ∷ 126 ∷ 92 ∷ 34 ∷ []) (Some (bytes "page fault")) (Some (bytes "x2"))
     (bytes "x5" ∷ bytes "x0" ∷ bytes "x2" ∷ []) (bytes "x2" ∷ bytes "x1" ∷ []) 449) 400)
-    ∷ shown start ∷ shown (advance none 400)
-    ∷ shown (fetch (op 1 15 Multiply false false (bytes "ecall x5") none (some (bytes "x3")) (bytes "x2" ∷ bytes "x1" ∷ bytes "x2" ∷
+    ∷ shown start ∷ shown (advance None 400)
+    ∷ shown (fetch (op 1 15 Multiply false false (bytes "ecall x5") None (Some (bytes "x3")) (bytes "x2" ∷ bytes "x1" ∷ bytes "x2" ∷
     []) (bytes "x3" ∷ []) 123) 400)
-    ∷ shown start ∷ shown (advance none 400)
-    ∷ shown (fetch (op 2 9223372036854775808 Store false false (bytes "? x3") none (some (bytes "x4")) (bytes "x2" ∷ bytes "x2" ∷ [])
+    ∷ shown start ∷ shown (advance None 400)
+    ∷ shown (fetch (op 2 9223372036854775808 Store false false (bytes "? x3") None (Some (bytes "x4")) (bytes "x2" ∷ bytes "x2" ∷ [])
     (bytes "x4" ∷ []) 678) 400)
-    ∷ shown start ∷ shown (advance none 400)
-    ∷ shown (fetch (op 3 3 Store false false (bytes "add x4") none none [] [] 124) 400)
-    ∷ shown start ∷ shown (advance none 400)
-    ∷ shown start ∷ shown (advance none 400)
-    ∷ shown (fetch (op 4 8 Store false false (bytes "add x7") none (some (bytes "shown")) (bytes "zzzzzzzzzzzzzzzzz" ∷ bytes "x1" ∷
+    ∷ shown start ∷ shown (advance None 400)
+    ∷ shown (fetch (op 3 3 Store false false (bytes "add x4") None None [] [] 124) 400)
+    ∷ shown start ∷ shown (advance None 400)
+    ∷ shown start ∷ shown (advance None 400)
+    ∷ shown (fetch (op 4 8 Store false false (bytes "add x7") None (Some (bytes "shown")) (bytes "zzzzzzzzzzzzzzzzz" ∷ bytes "x1" ∷
     bytes "x4" ∷ []) (bytes "x4" ∷ bytes "x3" ∷ bytes "x1" ∷ []) 18446744073709551615) 400)
-    ∷ shown start ∷ shown retire ∷ shown (advance none 400)
-    ∷ shown (fetch (op 4 14 Load false true (bytes "  div  x1 ") none none (bytes "x2" ∷ bytes "x0" ∷ [] ∷ []) [] 904) 400)
-    ∷ shown start ∷ shown (advance none 400)
-    ∷ shown (fetch (op 5 12 Store false false (bytes "nop x3") none (some (bytes "x2")) (bytes "x4" ∷ []) (bytes "x2" ∷ [])
+    ∷ shown start ∷ shown retire ∷ shown (advance None 400)
+    ∷ shown (fetch (op 4 14 Load false true (bytes "  div  x1 ") None None (bytes "x2" ∷ bytes "x0" ∷ [] ∷ []) [] 904) 400)
+    ∷ shown start ∷ shown (advance None 400)
+    ∷ shown (fetch (op 5 12 Store false false (bytes "nop x3") None (Some (bytes "x2")) (bytes "x4" ∷ []) (bytes "x2" ∷ [])
     9223372036854775808) 400)
-    ∷ shown start ∷ shown (advance none 400)
-    ∷ shown (fetch (op 6 11 Load false false (bytes "sub x6") none (some (bytes "x1")) [] (bytes "x1" ∷ []) 1) 400)
-    ∷ shown start ∷ shown (advance (some 204) 400)
-    ∷ shown (fetch (op 204 2 Load false true (bytes "lw x8") none (some []) (bytes "x3" ∷ []) [] 18) 400)
-    ∷ shown start ∷ shown (advance none 400)
-    ∷ shown (fetch (op 205 4 Store false false (bytes "ecall x3") none (some (bytes "sixteen-bytes-ok")) (bytes "x2" ∷ bytes "x4" ∷
+    ∷ shown start ∷ shown (advance None 400)
+    ∷ shown (fetch (op 6 11 Load false false (bytes "sub x6") None (Some (bytes "x1")) [] (bytes "x1" ∷ []) 1) 400)
+    ∷ shown start ∷ shown (advance (Some 204) 400)
+    ∷ shown (fetch (op 204 2 Load false true (bytes "lw x8") None (Some []) (bytes "x3" ∷ []) [] 18) 400)
+    ∷ shown start ∷ shown (advance None 400)
+    ∷ shown (fetch (op 205 4 Store false false (bytes "ecall x3") None (Some (bytes "sixteen-bytes-ok")) (bytes "x2" ∷ bytes "x4" ∷
     []) [] 0) 400)
-    ∷ shown start ∷ shown retire ∷ shown (advance none 400)
-    ∷ shown (fetch (op 206 8 Alu false false (bytes "beq x7") (some []) none (bytes "x5" ∷ [] ∷ bytes "x1" ∷ []) (bytes "x0" ∷ [])
+    ∷ shown start ∷ shown retire ∷ shown (advance None 400)
+    ∷ shown (fetch (op 206 8 Alu false false (bytes "beq x7") (Some []) None (bytes "x5" ∷ [] ∷ bytes "x1" ∷ []) (bytes "x0" ∷ [])
     772) 400)
-    ∷ shown start ∷ shown (advance none 400)
-    ∷ shown start ∷ shown (advance none 400)
-    ∷ shown start ∷ shown (advance none 400)
-    ∷ shown start ∷ shown (advance none 399) ∷ shown (advance none 400) ∷ shown (advance none 0)
-    ∷ shown start ∷ shown (advance none 400)
-    ∷ shown start ∷ shown retire ∷ shown (advance none 400)
-    ∷ shown (fetch (op 207 12 Alu false false (34 ∷ 113 ∷ 34 ∷ 32 ∷ 120 ∷ 50 ∷ []) none (some (bytes "sixteen-bytes-ok")) (bytes "x3"
+    ∷ shown start ∷ shown (advance None 400)
+    ∷ shown start ∷ shown (advance None 400)
+    ∷ shown start ∷ shown (advance None 400)
+    ∷ shown start ∷ shown (advance None 399) ∷ shown (advance None 400) ∷ shown (advance None 0)
+    ∷ shown start ∷ shown (advance None 400)
+    ∷ shown start ∷ shown retire ∷ shown (advance None 400)
+    ∷ shown (fetch (op 207 12 Alu false false (34 ∷ 113 ∷ 34 ∷ 32 ∷ 120 ∷ 50 ∷ []) None (Some (bytes "sixteen-bytes-ok")) (bytes "x3"
     ∷ bytes "x1" ∷ bytes "x0" ∷ bytes "x1" ∷ bytes "x3" ∷ bytes "x3" ∷ bytes "x0" ∷ bytes "x3" ∷ []) (bytes "x3" ∷ bytes "x1" ∷
     bytes "x2" ∷ bytes "sixteen-bytes-ok" ∷ bytes "x4" ∷ []) 319) 400)
-    ∷ shown (fetch (op 207 0 Store false false (bytes "   ") none (some (bytes "x2")) ([] ∷ bytes "x0" ∷ bytes "x2" ∷ bytes "x0" ∷
+    ∷ shown (fetch (op 207 0 Store false false (bytes "   ") None (Some (bytes "x2")) ([] ∷ bytes "x0" ∷ bytes "x2" ∷ bytes "x0" ∷
     bytes "x3" ∷ bytes "x5" ∷ bytes "x3" ∷ bytes "x2" ∷ []) (bytes "x2" ∷ bytes "x0" ∷ bytes "x2" ∷ [] ∷ []) 683) 400)
-    ∷ shown start ∷ shown retire ∷ shown (cell 0 1 400) ∷ shown (advance none 400)
-    ∷ shown start ∷ shown retire ∷ shown (advance none 400) ∷ shown (advance none 400)
-    ∷ shown start ∷ shown (advance none 400)
-    ∷ shown start ∷ shown retire ∷ shown (advance none 400)
-    ∷ shown start ∷ shown (advance (some 1570561573949654578) 228) ∷ shown (advance none 400)
-    ∷ shown start ∷ shown (advance none 400)
-    ∷ shown start ∷ shown (advance none 400)
-    ∷ shown start ∷ shown (advance none 400)
-    ∷ shown start ∷ shown (advance none 400)
-    ∷ shown start ∷ shown (advance none 400)
-    ∷ shown start ∷ shown retire ∷ shown (advance none 400)
-    ∷ shown (fetch (op 208 6 Load false false (bytes "lw x1") (some (bytes "page fault")) none (bytes "sixteen-bytes-ok" ∷ bytes "x1"
+    ∷ shown start ∷ shown retire ∷ shown (cell 0 1 400) ∷ shown (advance None 400)
+    ∷ shown start ∷ shown retire ∷ shown (advance None 400) ∷ shown (advance None 400)
+    ∷ shown start ∷ shown (advance None 400)
+    ∷ shown start ∷ shown retire ∷ shown (advance None 400)
+    ∷ shown start ∷ shown (advance (Some 1570561573949654578) 228) ∷ shown (advance None 400)
+    ∷ shown start ∷ shown (advance None 400)
+    ∷ shown start ∷ shown (advance None 400)
+    ∷ shown start ∷ shown (advance None 400)
+    ∷ shown start ∷ shown (advance None 400)
+    ∷ shown start ∷ shown (advance None 400)
+    ∷ shown start ∷ shown retire ∷ shown (advance None 400)
+    ∷ shown (fetch (op 208 6 Load false false (bytes "lw x1") (Some (bytes "page fault")) None (bytes "sixteen-bytes-ok" ∷ bytes "x1"
     ∷ []) (bytes "x4" ∷ []) 640) 400)
-    ∷ shown start ∷ shown retire ∷ shown (advance none 400)
-    ∷ shown (fetch (op 209 7 Jump true false (bytes "add x4") none none [] [] 599) 400)
-    ∷ shown start ∷ shown (advance none 400)
-    ∷ shown (fetch (op 210 14 Store false false (bytes "cccccccccccccccccccccccccccccccccccccccccccccccccccccccccccccccc") (some
-    (bytes "page fault")) none (bytes "x0" ∷ bytes "x2" ∷ bytes "x1" ∷ bytes "x3" ∷ bytes "x3" ∷ bytes "x3" ∷
+    ∷ shown start ∷ shown retire ∷ shown (advance None 400)
+    ∷ shown (fetch (op 209 7 Jump true false (bytes "add x4") None None [] [] 599) 400)
+    ∷ shown start ∷ shown (advance None 400)
+    ∷ shown (fetch (op 210 14 Store false false (bytes "cccccccccccccccccccccccccccccccccccccccccccccccccccccccccccccccc") (Some
+    (bytes "page fault")) None (bytes "x0" ∷ bytes "x2" ∷ bytes "x1" ∷ bytes "x3" ∷ bytes "x3" ∷ bytes "x3" ∷
     bytes "sixteen-bytes-ok" ∷ bytes "x5" ∷ []) (bytes "x0" ∷ bytes "rflags" ∷ bytes "x3" ∷ bytes "x5" ∷ []) 778) 400)
     ∷ shown start
     ∷ rest ∷ []

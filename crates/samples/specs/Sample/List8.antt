@@ -1,6 +1,5 @@
 -- List 8 of the sample, from seed 2305. Made by the harness: see docs/SAMPLES.md.
-use Rattle.std.specs.Prelude.{ℕ, true, false, List, [], ◌∷◌}
-use Rattle.std.proofs.Math.Option.{none, some}
+use Rattle.std.specs.Prelude.{ℕ, true, false, List, [], ◌∷◌, None, Some}
 use Rattle.laws.specs.Texts.{bytes}
 use Rattle.capability.specs.declared.PipelineInstructionClass.TheVariants.{
   Alu,
@@ -22,7 +21,7 @@ use Rattle.capability.specs.declared.PipelineStageRole.TheVariants as role
 abbrev shape : PipelineShape
 shape =
     pipeline_shape (role.Commit ∷ role.Commit ∷ role.Commit ∷ role.Execute ∷ role.Commit ∷ role.Memory ∷ role.Issue ∷ role.Commit ∷
-    role.Other ∷ role.Memory ∷ role.Issue ∷ role.Fetch ∷ role.Issue ∷ role.Issue ∷ role.Fetch ∷ role.Fetch ∷ []) none (timing 0 3 1 0
+    role.Other ∷ role.Memory ∷ role.Issue ∷ role.Fetch ∷ role.Issue ∷ role.Issue ∷ role.Fetch ∷ role.Fetch ∷ []) None (timing 0 3 1 0
     0 5 5) (unit_spec (bytes " ") (Alu ∷ Branch ∷ Divide ∷ Multiply ∷ []) FloatingPoint 2 ∷ unit_spec (bytes " ") [] Multiply 2 ∷
     unit_spec (bytes "A") (System ∷ Store ∷ Load ∷ Branch ∷ []) Divide 2 ∷ unit_spec (bytes "DIV") [] Store 2 ∷ unit_spec
     (bytes "DIV") (Jump ∷ Divide ∷ Store ∷ Load ∷ []) Divide 3 ∷ []) 1
@@ -30,41 +29,41 @@ shape =
 abbrev steps : List Step
 steps =
     shown (overlap true)
-    ∷ shown start ∷ shown (advance none 200)
-    ∷ shown (fetch (op 9223372036854775808 5 Unknown false false (bytes "nop x0") (some (bytes "page fault")) none (bytes "x7" ∷
+    ∷ shown start ∷ shown (advance None 200)
+    ∷ shown (fetch (op 9223372036854775808 5 Unknown false false (bytes "nop x0") (Some (bytes "page fault")) None (bytes "x7" ∷
     bytes "x4" ∷ bytes "x3" ∷ []) [] 775) 200)
-    ∷ shown start ∷ shown (advance none 200)
-    ∷ shown (fetch (op 9223372036854775813 8 Unknown false false (34 ∷ 113 ∷ 34 ∷ 32 ∷ 120 ∷ 55 ∷ []) none (some (31 ∷ []))
+    ∷ shown start ∷ shown (advance None 200)
+    ∷ shown (fetch (op 9223372036854775813 8 Unknown false false (34 ∷ 113 ∷ 34 ∷ 32 ∷ 120 ∷ 55 ∷ []) None (Some (31 ∷ []))
     (bytes "x7" ∷ bytes "x1" ∷ bytes "x2" ∷ []) (bytes "a.0" ∷ bytes "x1" ∷ bytes "x2" ∷ bytes "x7" ∷ bytes "x0" ∷ []) 735) 200)
-    ∷ shown (fetch (op 9223372036854775813 13 Alu false true [] none (some (bytes "x2")) (bytes "rflags" ∷ bytes "x1" ∷ bytes "x5" ∷
+    ∷ shown (fetch (op 9223372036854775813 13 Alu false true [] None (Some (bytes "x2")) (bytes "rflags" ∷ bytes "x1" ∷ bytes "x5" ∷
     []) (bytes "x2" ∷ bytes "x4" ∷ []) 987) 200)
-    ∷ shown start ∷ shown (advance none 200)
-    ∷ shown (fetch (op 9223372036854775826 2 Alu false false (bytes "jal x6") none none [] [] 159) 200)
-    ∷ shown start ∷ shown (advance none 200)
-    ∷ shown start ∷ shown (advance none 200)
-    ∷ shown start ∷ shown retire ∷ shown (advance none 200)
-    ∷ shown (fetch (op 1 5 FloatingPoint false false (32 ∷ 126 ∷ 92 ∷ 34 ∷ []) (some
-    (bytes "ffffffffffffffffffffffffffffffffffffffffffffffffffffffffffffffff")) none (bytes "x2" ∷ bytes "x3" ∷ bytes "x1" ∷ [])
+    ∷ shown start ∷ shown (advance None 200)
+    ∷ shown (fetch (op 9223372036854775826 2 Alu false false (bytes "jal x6") None None [] [] 159) 200)
+    ∷ shown start ∷ shown (advance None 200)
+    ∷ shown start ∷ shown (advance None 200)
+    ∷ shown start ∷ shown retire ∷ shown (advance None 200)
+    ∷ shown (fetch (op 1 5 FloatingPoint false false (32 ∷ 126 ∷ 92 ∷ 34 ∷ []) (Some
+    (bytes "ffffffffffffffffffffffffffffffffffffffffffffffffffffffffffffffff")) None (bytes "x2" ∷ bytes "x3" ∷ bytes "x1" ∷ [])
     (bytes "x6" ∷ bytes "b.0" ∷ bytes "x7" ∷ []) 585) 200)
-    ∷ shown start ∷ shown retire ∷ shown (advance none 200)
-    ∷ shown (fetch (op 6 0 Branch true true (bytes "  lw  x1 ") none (some (bytes "x3")) (bytes "x1" ∷ []) (bytes "x3" ∷ []) 902) 200)
-    ∷ shown start ∷ shown retire ∷ shown (advance none 200)
-    ∷ shown (fetch (op 7 4 FloatingPoint false false (bytes "beq x9") none (some (bytes "shown")) (bytes "c.0" ∷ bytes " x 1" ∷ [])
+    ∷ shown start ∷ shown retire ∷ shown (advance None 200)
+    ∷ shown (fetch (op 6 0 Branch true true (bytes "  lw  x1 ") None (Some (bytes "x3")) (bytes "x1" ∷ []) (bytes "x3" ∷ []) 902) 200)
+    ∷ shown start ∷ shown retire ∷ shown (advance None 200)
+    ∷ shown (fetch (op 7 4 FloatingPoint false false (bytes "beq x9") None (Some (bytes "shown")) (bytes "c.0" ∷ bytes " x 1" ∷ [])
     (bytes "x4" ∷ bytes "x4" ∷ []) 335) 200)
-    ∷ shown start ∷ shown (advance none 200)
-    ∷ shown start ∷ shown (advance none 200)
-    ∷ shown (fetch (op 11 1 FloatingPoint false true (bytes "jal x7") (some []) (some (bytes "shown")) (bytes "x2" ∷ bytes "x1" ∷
+    ∷ shown start ∷ shown (advance None 200)
+    ∷ shown start ∷ shown (advance None 200)
+    ∷ shown (fetch (op 11 1 FloatingPoint false true (bytes "jal x7") (Some []) (Some (bytes "shown")) (bytes "x2" ∷ bytes "x1" ∷
     bytes "x3" ∷ bytes "x5" ∷ []) (bytes "x5" ∷ bytes "x4" ∷ []) 615) 200)
-    ∷ shown start ∷ shown (advance none 200)
-    ∷ shown (fetch (op 12 3 Unknown false false (bytes "div x7") none (some (bytes "x1")) (bytes "x1" ∷ bytes "x5" ∷ bytes "x7" ∷ [])
+    ∷ shown start ∷ shown (advance None 200)
+    ∷ shown (fetch (op 12 3 Unknown false false (bytes "div x7") None (Some (bytes "x1")) (bytes "x1" ∷ bytes "x5" ∷ bytes "x7" ∷ [])
     (bytes "x1" ∷ []) 18446744073709551615) 200)
-    ∷ shown start ∷ shown (advance none 200)
-    ∷ shown start ∷ shown (advance none 200)
-    ∷ shown start ∷ shown (advance none 200)
-    ∷ shown start ∷ shown (advance none 200)
-    ∷ shown start ∷ shown retire ∷ shown (resolve 16) ∷ shown (advance none 200)
-    ∷ shown start ∷ shown (resolve 7) ∷ shown (resolve 212) ∷ shown retire ∷ shown retire ∷ shown (advance (some 212) 200)
-    ∷ shown (fetch (op 212 10 Divide false false (bytes "lw x4") (some []) (some (bytes "x6")) [] (bytes "x6" ∷ []) 530) 199)
+    ∷ shown start ∷ shown (advance None 200)
+    ∷ shown start ∷ shown (advance None 200)
+    ∷ shown start ∷ shown (advance None 200)
+    ∷ shown start ∷ shown (advance None 200)
+    ∷ shown start ∷ shown retire ∷ shown (resolve 16) ∷ shown (advance None 200)
+    ∷ shown start ∷ shown (resolve 7) ∷ shown (resolve 212) ∷ shown retire ∷ shown retire ∷ shown (advance (Some 212) 200)
+    ∷ shown (fetch (op 212 10 Divide false false (bytes "lw x4") (Some []) (Some (bytes "x6")) [] (bytes "x6" ∷ []) 530) 199)
     ∷ rest ∷ []
 
 abbrev numbers : List ℕ

@@ -1,6 +1,5 @@
 -- List 9 of the sample, from seed 766. Made by the harness: see docs/SAMPLES.md.
-use Rattle.std.specs.Prelude.{ℕ, List, [], ◌∷◌}
-use Rattle.std.proofs.Math.Option.{none}
+use Rattle.std.specs.Prelude.{ℕ, List, [], ◌∷◌, None}
 use Rattle.laws.specs.Texts.{bytes}
 use Rattle.capability.specs.declared.PipelineInstructionClass.TheVariants.{
   Alu,
@@ -20,7 +19,7 @@ use Rattle.capability.specs.declared.PipelineStageRole.TheVariants as role
 
 abbrev shape : PipelineShape
 shape =
-    pipeline_shape (role.Writeback ∷ role.Fetch ∷ role.Issue ∷ role.Execute ∷ []) none (timing 2 3 8 1 8 1 8) (unit_spec
+    pipeline_shape (role.Writeback ∷ role.Fetch ∷ role.Issue ∷ role.Execute ∷ []) None (timing 2 3 8 1 8 1 8) (unit_spec
     (bytes "SYS") (Branch ∷ Alu ∷ Divide ∷ []) FloatingPoint 1 ∷ unit_spec (bytes "FPU") [] Store 1 ∷ unit_spec (bytes "A") (Multiply
     ∷ []) Load 1 ∷ unit_spec (bytes "A") (Multiply ∷ Alu ∷ Divide ∷ Divide ∷ []) Store 1 ∷ unit_spec (bytes "12345678") (Jump ∷
     FloatingPoint ∷ Jump ∷ []) Divide 1 ∷ unit_spec (bytes "12345678") [] FloatingPoint 1 ∷ unit_spec (bytes "DIV") (Alu ∷
