@@ -1,7 +1,5 @@
 -- What is told of a case besides its number and its label.
-use Rattle.std.specs.Prelude.{ℕ, ◌<◌, ◌≡◌, Bool, true, false, List, [], ◌∷◌}
-use Rattle.std.proofs.Math.Option.{Option, none, some}
-use Rattle.laws.specs.Lists.{nth}
+use Rattle.std.specs.Prelude.{ℕ, ◌<◌, ◌≡◌, Bool, true, false, List, [], ◌∷◌, Option, None, Some, slice_get}
 use Rattle.capability.specs.declared.PipelineInstructionClass.{PipelineInstructionClass}
 use Rattle.capability.specs.declared.PipelineInstructionClass.TheVariants.{
   Alu,
@@ -32,17 +30,11 @@ use Rattle.capability.specs.declared.PipelineEntryPhase.{PipelineEntryPhase}
 use Rattle.capability.specs.declared.PipelineEntryPhase.TheVariants as entry
 use Rattle.capability.specs.declared.PipelineStats.{PipelineStats}
 use Rattle.capability.specs.declared.PipelineEdge.{PipelineEdge}
-use Rattle.capability.specs.declared.MaybeClass.{MaybeClass}
-use Rattle.capability.specs.declared.MaybeClass.TheVariants as a_class
-use Rattle.capability.specs.declared.MaybeRole.{MaybeRole}
-use Rattle.capability.specs.declared.MaybeRole.TheVariants as a_role
-use Rattle.capability.specs.declared.MaybeIndex.{MaybeIndex}
-use Rattle.capability.specs.declared.MaybeIndex.TheVariants as a_index
 
 -- Cases have numbers below a count, each its own, and `of` is the way back.
 pub record Numbered {A : Type 0} (number : A → ℕ) (of : ℕ → Option A) (count : ℕ) : Type 0 where
-  pub back : (a : A) → of (number a) ≡ some a
-  pub only : (n : ℕ) (a : A) → of n ≡ some a → number a ≡ n
+  pub back : (a : A) → of (number a) ≡ Some a
+  pub only : (n : ℕ) (a : A) → of n ≡ Some a → number a ≡ n
   pub below : (a : A) → number a < count
   pub one_to_one : (a b : A) → number a ≡ number b → a ≡ b
 
@@ -52,8 +44,7 @@ classes = Alu ∷ Multiply ∷ Divide ∷ Load ∷ Store ∷ Branch ∷ Jump ∷
 
 -- The class with a number.
 unfoldable pub class_of : ℕ → Option PipelineInstructionClass
-unfolding nth
-class_of n = nth classes n
+class_of n = slice_get classes n
 
 -- All roles, in the Rust's order.
 abbrev pub roles : List PipelineStageRole
@@ -70,18 +61,17 @@ roles =
 
 -- The role with a number.
 unfoldable pub role_of : ℕ → Option PipelineStageRole
-unfolding nth
-role_of n = nth roles n
+role_of n = slice_get roles n
 
 -- PipelineHazardKind::as_stall_index
 abbrev pub stall_index : PipelineHazardKind → Option ℕ
-stall_index ReadAfterWrite = some 0
-stall_index LoadUse = some 1
-stall_index BranchFlush = some 2
-stall_index FunctionalUnitBusy = some 3
-stall_index MemoryLatency = some 4
-stall_index WriteAfterWrite = none
-stall_index WriteAfterRead = none
+stall_index ReadAfterWrite = Some 0
+stall_index LoadUse = Some 1
+stall_index BranchFlush = Some 2
+stall_index FunctionalUnitBusy = Some 3
+stall_index MemoryLatency = Some 4
+stall_index WriteAfterWrite = None
+stall_index WriteAfterRead = None
 
 -- PipelineEntryPhase::occupied
 abbrev pub occupied : PipelineEntryPhase → Bool
@@ -91,19 +81,6 @@ occupied entry.Armed = true
 occupied entry.Executing = true
 occupied entry.Finished = true
 occupied entry.Committing = true
-
--- What an answer stands for.
-abbrev pub maybe_class : MaybeClass → Option PipelineInstructionClass
-maybe_class (a_class.Some c) = some c
-maybe_class a_class.Nothing = none
-
-abbrev pub maybe_role : MaybeRole → Option PipelineStageRole
-maybe_role (a_role.Some c) = some c
-maybe_role a_role.Nothing = none
-
-abbrev pub maybe_index : MaybeIndex → Option ℕ
-maybe_index (a_index.Some n) = some n
-maybe_index a_index.Nothing = none
 
 -- PipelineStats::default
 abbrev pub no_stats : PipelineStats

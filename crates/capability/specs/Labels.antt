@@ -1,7 +1,5 @@
 -- The text that each case is shown as, byte for byte the Rust's.
-use Rattle.std.specs.Prelude.{◌-◌, ◌≤◌, ◌≡◌, length, take, drop, replicate}
 use Rattle.laws.specs.Texts.{Text, bytes, texts}
-use Rattle.capability.specs.declared.Label.{Label}
 use Rattle.capability.specs.declared.PipelineInstructionClass.{PipelineInstructionClass}
 use Rattle.capability.specs.declared.PipelineInstructionClass.TheVariants.{
   Alu,
@@ -36,16 +34,6 @@ use Rattle.capability.specs.declared.PipelineEntryPhase.TheVariants.{
   Finished,
   Committing,
 }
-
--- The text that a label shows.
-abbrev pub label_text : Label → Text
-label_text l = take l.len l.bytes
-
--- A label has 12 bytes; those past its text are 0.
-pub record LabelOk (l : Label) : Type 0 where
-  pub size : length l.bytes ≡ 12
-  pub fits : l.len ≤ 12
-  pub rest : drop l.len l.bytes ≡ replicate (12 - l.len) 0
 
 -- PipelineInstructionClass::label
 unfoldable pub class_label : PipelineInstructionClass → Text

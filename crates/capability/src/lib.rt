@@ -1,8 +1,8 @@
 // What a host reads of a pipeline (capability/pipeline.rs): the kinds of thing that it tells apart, and the counters.
 #![tactic(auto)]
 
-ghost use Rattle.std.specs.Prelude.{◌≡◌, ◌≤◌, length};
-ghost use Rattle.laws.specs.Means.{Means};
+ghost use Rattle.std.specs.Prelude.{◌≡◌};
+ghost use Rattle.std.specs.Result.{result_ok};
 ghost use Rattle.laws.specs.Numbers.{saturating_add};
 ghost use Rattle.capability.specs.Numbers.{
   class_number,
@@ -16,18 +16,14 @@ ghost use Rattle.capability.specs.Numbers.{
 };
 ghost use Rattle.capability.specs.Cases.{
   class_of,
-  maybe_class,
   role_of,
-  maybe_role,
   stall_index,
-  maybe_index,
   occupied,
   no_stats,
   sequential_edge,
 };
+ghost use Rattle.capability.specs.Refusals.{refusal_number};
 ghost use Rattle.capability.specs.Labels.{
-  label_text,
-  LabelOk,
   class_label,
   hazard_label,
   hazard_tag,
@@ -35,8 +31,11 @@ ghost use Rattle.capability.specs.Labels.{
   entry_label,
 };
 
+use std::error::Error;
+use std::fmt;
+
 // Broad instruction categories, for timing and presentation.
-#[derive(Clone, Copy)]
+#[derive(Clone, Copy, Debug, PartialEq, Eq)]
 pub enum PipelineInstructionClass {
     Alu,
     Multiply,
@@ -51,7 +50,7 @@ pub enum PipelineInstructionClass {
 }
 
 // Hazards common to pipeline models.
-#[derive(Clone, Copy)]
+#[derive(Clone, Copy, Debug, PartialEq, Eq)]
 pub enum PipelineHazardKind {
     ReadAfterWrite,
     LoadUse,
@@ -63,14 +62,14 @@ pub enum PipelineHazardKind {
 }
 
 // What an entry of the trace tells.
-#[derive(Drop)]
+#[derive(Clone, Copy, Debug, PartialEq, Eq)]
 pub enum PipelineTraceKind {
     Hazard(PipelineHazardKind),
     Forward,
 }
 
 // What a stage is for.
-#[derive(Clone, Copy)]
+#[derive(Clone, Copy, Debug, PartialEq, Eq)]
 pub enum PipelineStageRole {
     Fetch,
     Decode,
@@ -83,7 +82,7 @@ pub enum PipelineStageRole {
 }
 
 // How instructions move between two stages.
-#[derive(Clone, Copy)]
+#[derive(Clone, Copy, Debug, PartialEq, Eq)]
 pub enum PipelineEdgeKind {
     Sequential,
     Forward,
@@ -91,7 +90,7 @@ pub enum PipelineEdgeKind {
 }
 
 // What a cell of the timeline shows.
-#[derive(Drop)]
+#[derive(Clone, Copy, Debug, PartialEq, Eq)]
 pub enum PipelineTimelineState {
     Empty,
     Active,
@@ -102,7 +101,7 @@ pub enum PipelineTimelineState {
 }
 
 // How far an instruction in a station has got.
-#[derive(Drop)]
+#[derive(Clone, Copy, Debug, PartialEq, Eq)]
 pub enum PipelineEntryPhase {
     Free,
     Waiting,
@@ -113,7 +112,7 @@ pub enum PipelineEntryPhase {
 }
 
 // Where an instruction is within a unit. (scoreboard.rs; here because model and code share it.)
-#[derive(Clone, Copy)]
+#[derive(Clone, Copy, Debug, PartialEq, Eq)]
 pub enum Phase {
     Wait,
     Read,
@@ -121,8 +120,36 @@ pub enum Phase {
     Write,
 }
 
+// What a call, making, or a list or line of input is refused for, by its number for no.
+#[derive(Clone, Copy, Debug, PartialEq, Eq)]
+pub enum Refusal {
+    // A machine, or one after a capacity change, has too many kinds, units, stages or rows.
+    TooBig = 1,
+    // A text or a name is too long, or has a byte outside 0x20 to 0x7E.
+    BadText = 2,
+    // An extra of the timing is 2^64 - 1.
+    ExtraOverflows = 3,
+    InCycle = 4,
+    NotInCycle = 5,
+    NoOffer = 6,
+    // The offer was not retired.
+    Unsettled = 7,
+    NotInvited = 8,
+    // An operation has over 8 sources or 4 destinations.
+    TooManyNames = 9,
+    // The table has no room for an operation's names.
+    NamesFull = 10,
+    // The operations' numbers are used up.
+    NumbersUsedUp = 11,
+    NoSuchKind = 12,
+    // The lent memory is short.
+    ShortMemory = 13,
+    // A list or a line is not of its form, or too long.
+    BadForm = 14,
+}
+
 // Lifecycle and mode flags.
-#[derive(Drop)]
+#[derive(Clone, Copy, Debug, PartialEq, Eq)]
 pub struct PipelineStatus {
     pub enabled: bool,
     pub sequential: bool,
@@ -131,7 +158,7 @@ pub struct PipelineStatus {
 }
 
 // The counters; each stops at 2^64 - 1.
-#[derive(Clone, Copy)]
+#[derive(Clone, Copy, Debug, Default, PartialEq, Eq)]
 pub struct PipelineStats {
     pub cycles: u64,
     pub committed: u64,
@@ -148,54 +175,24 @@ pub struct PipelineStats {
 }
 
 // A directed edge between two stages.
-#[derive(Clone, Copy)]
+#[derive(Clone, Copy, Debug, PartialEq, Eq)]
 pub struct PipelineEdge {
     pub from: u8,
     pub to: u8,
     pub kind: PipelineEdgeKind,
 }
 
-// A class, where a number has one.
-#[derive(Drop)]
-pub enum MaybeClass {
-    Some(PipelineInstructionClass),
-    Nothing,
-}
+// A number that no case has.
+#[derive(Clone, Copy, Debug, PartialEq, Eq)]
+pub struct UnknownNumber(pub u8);
 
-// A role, where a number has one.
-#[derive(Drop)]
-pub enum MaybeRole {
-    Some(PipelineStageRole),
-    Nothing,
-}
-
-// A place in a list of counters, where there is one.
-#[derive(Drop)]
-pub enum MaybeIndex {
-    Some(usize),
-    Nothing,
-}
-
-// A short text: its first len bytes.
-#[derive(Drop)]
-pub struct Label {
-    pub bytes: [u8; 12],
-    pub len: usize,
-}
-
-// A text of at most 12 bytes as a label.
-fn label_of(text: &[u8]) -> Label
-    requires { length text.now ≤ 12 }
-    ensures { Means label_text LabelOk result text.now }
-{
-    let mut bytes = [0u8; 12];
-    let mut i = 0;
-    while i < text.len() {
-        bytes[i] = text[i];
-        i += 1;
+impl fmt::Display for UnknownNumber {
+    fn fmt<W: fmt::Write>(&self, f: &mut fmt::Formatter<W>) -> fmt::Result {
+        write!(f, "no case has the number {}", self.0)
     }
-    Label { bytes, len: i }
 }
+
+impl Error for UnknownNumber {}
 
 impl PipelineInstructionClass {
     pub const COUNT: usize = 10;
@@ -213,50 +210,43 @@ impl PipelineInstructionClass {
         Self::Unknown,
     ];
 
-    pub fn label(self) -> Label
-        ensures { Means label_text LabelOk result (class_label self) }
+    #[tactic(auto, unfolding(crate::specs::Labels::class_label, crate::specs::Labels::labels))]
+    pub fn label(self) -> &'static str
+        ensures { result.now ≡ class_label self }
     {
         match self {
-            Self::Alu => label_of(b"ALU"),
-            Self::Multiply => label_of(b"MUL"),
-            Self::Divide => label_of(b"DIV"),
-            Self::Load => label_of(b"Load"),
-            Self::Store => label_of(b"Store"),
-            Self::Branch => label_of(b"Branch"),
-            Self::Jump => label_of(b"Jump"),
-            Self::System => label_of(b"System"),
-            Self::FloatingPoint => label_of(b"FP"),
-            Self::Unknown => label_of(b"?"),
+            Self::Alu => "ALU",
+            Self::Multiply => "MUL",
+            Self::Divide => "DIV",
+            Self::Load => "Load",
+            Self::Store => "Store",
+            Self::Branch => "Branch",
+            Self::Jump => "Jump",
+            Self::System => "System",
+            Self::FloatingPoint => "FP",
+            Self::Unknown => "?",
         }
     }
 
+    #[tactic(auto, unfolding(crate::specs::Numbers::class_number))]
     pub fn as_usize(self) -> usize
         ensures { result ≡ class_number self }
     {
-        match self {
-            Self::Alu => 0,
-            Self::Multiply => 1,
-            Self::Divide => 2,
-            Self::Load => 3,
-            Self::Store => 4,
-            Self::Branch => 5,
-            Self::Jump => 6,
-            Self::System => 7,
-            Self::FloatingPoint => 8,
-            Self::Unknown => 9,
-        }
+        self as usize
     }
 }
 
-// The class with a number.
-pub fn class_of(number: u8) -> MaybeClass
-    ensures { maybe_class result ≡ class_of number }
-{
-    let n = number as usize;
-    if n < PipelineInstructionClass::COUNT {
-        MaybeClass::Some(PipelineInstructionClass::ALL[n])
-    } else {
-        MaybeClass::Nothing
+#[tactic(auto, unfolding(crate::specs::Cases::class_of))]
+impl TryFrom<u8> for PipelineInstructionClass {
+    type Error = UnknownNumber;
+
+    ghost try_from_gives = { λ number r. result_ok r ≡ class_of number };
+
+    fn try_from(number: u8) -> Result<Self, UnknownNumber> {
+        Self::ALL
+            .get(number as usize)
+            .copied()
+            .ok_or(UnknownNumber(number))
     }
 }
 
@@ -264,82 +254,82 @@ impl PipelineHazardKind {
     // How many hazard kinds cost cycles.
     pub const STALL_TYPE_COUNT: usize = 5;
 
-    pub fn label(self) -> Label
-        ensures { Means label_text LabelOk result (hazard_label self) }
+    #[tactic(auto, unfolding(crate::specs::Labels::hazard_label, crate::specs::Labels::labels))]
+    pub fn label(self) -> &'static str
+        ensures { result.now ≡ hazard_label self }
     {
         match self {
-            Self::ReadAfterWrite => label_of(b"RAW"),
-            Self::LoadUse => label_of(b"load-use"),
-            Self::BranchFlush => label_of(b"branch flush"),
-            Self::FunctionalUnitBusy => label_of(b"FU busy"),
-            Self::MemoryLatency => label_of(b"cache stall"),
-            Self::WriteAfterWrite => label_of(b"WAW"),
-            Self::WriteAfterRead => label_of(b"WAR"),
+            Self::ReadAfterWrite => "RAW",
+            Self::LoadUse => "load-use",
+            Self::BranchFlush => "branch flush",
+            Self::FunctionalUnitBusy => "FU busy",
+            Self::MemoryLatency => "cache stall",
+            Self::WriteAfterWrite => "WAW",
+            Self::WriteAfterRead => "WAR",
         }
     }
 
     // A hazard's tag in a trace.
-    fn tag(self) -> Label
-        ensures { Means label_text LabelOk result (hazard_tag self) }
+    #[tactic(auto, unfolding(crate::specs::Labels::hazard_tag, crate::specs::Labels::labels))]
+    fn tag(self) -> &'static str
+        ensures { result.now ≡ hazard_tag self }
     {
         match self {
-            Self::ReadAfterWrite => label_of(b"RAW"),
-            Self::LoadUse => label_of(b"LOAD"),
-            Self::BranchFlush => label_of(b"CTRL"),
-            Self::FunctionalUnitBusy => label_of(b"FU"),
-            Self::MemoryLatency => label_of(b"MEM"),
-            Self::WriteAfterWrite => label_of(b"WAW"),
-            Self::WriteAfterRead => label_of(b"WAR"),
+            Self::ReadAfterWrite => "RAW",
+            Self::LoadUse => "LOAD",
+            Self::BranchFlush => "CTRL",
+            Self::FunctionalUnitBusy => "FU",
+            Self::MemoryLatency => "MEM",
+            Self::WriteAfterWrite => "WAW",
+            Self::WriteAfterRead => "WAR",
         }
     }
 
     // A place among the STALL_TYPE_COUNT counters; the name hazards have none.
-    pub fn as_stall_index(self) -> MaybeIndex
-        ensures { maybe_index result ≡ stall_index self }
+    pub fn as_stall_index(self) -> Option<usize>
+        ensures { result ≡ stall_index self }
     {
         match self {
-            Self::ReadAfterWrite => MaybeIndex::Some(0),
-            Self::LoadUse => MaybeIndex::Some(1),
-            Self::BranchFlush => MaybeIndex::Some(2),
-            Self::FunctionalUnitBusy => MaybeIndex::Some(3),
-            Self::MemoryLatency => MaybeIndex::Some(4),
-            Self::WriteAfterWrite => MaybeIndex::Nothing,
-            Self::WriteAfterRead => MaybeIndex::Nothing,
+            Self::ReadAfterWrite => Some(0),
+            Self::LoadUse => Some(1),
+            Self::BranchFlush => Some(2),
+            Self::FunctionalUnitBusy => Some(3),
+            Self::MemoryLatency => Some(4),
+            Self::WriteAfterWrite | Self::WriteAfterRead => None,
         }
     }
+}
 
-    pub fn number(self) -> u8
-        ensures { result ≡ hazard_number self }
-    {
-        match self {
-            Self::ReadAfterWrite => 0,
-            Self::LoadUse => 1,
-            Self::BranchFlush => 2,
-            Self::FunctionalUnitBusy => 3,
-            Self::MemoryLatency => 4,
-            Self::WriteAfterWrite => 5,
-            Self::WriteAfterRead => 6,
-        }
+#[tactic(auto, unfolding(crate::specs::Numbers::hazard_number))]
+impl From<PipelineHazardKind> for u8 {
+    ghost from_gives = { λ hazard number. number ≡ hazard_number hazard };
+
+    fn from(hazard: PipelineHazardKind) -> u8 {
+        hazard as u8
     }
 }
 
 impl PipelineTraceKind {
     // A tag for a dense trace column.
-    pub fn short_label(self) -> Label
-        ensures { Means label_text LabelOk result (trace_label self) }
+    #[tactic(auto, unfolding(crate::specs::Labels::trace_label, crate::specs::Labels::labels))]
+    pub fn short_label(self) -> &'static str
+        ensures { result.now ≡ trace_label self }
     {
         match self {
             Self::Hazard(hazard) => hazard.tag(),
-            Self::Forward => label_of(b"FWD"),
+            Self::Forward => "FWD",
         }
     }
+}
 
-    pub fn number(self) -> u8
-        ensures { result ≡ trace_number self }
-    {
-        match self {
-            Self::Hazard(hazard) => hazard.number(),
-            Self::Forward => 7,
+#[tactic(auto, unfolding(crate::specs::Numbers::trace_number))]
+impl From<PipelineTraceKind> for u8 {
+    ghost from_gives = { λ kind number. number ≡ trace_number kind };
+
+    fn from(kind: PipelineTraceKind) -> u8 {
+        match kind {
+            PipelineTraceKind::Hazard(hazard) => u8::from(hazard),
+            PipelineTraceKind::Forward => 7,
         }
     }
 }
@@ -357,135 +347,118 @@ impl PipelineStageRole {
         Self::Commit,
         Self::Other,
     ];
+}
 
-    pub fn number(self) -> u8
-        ensures { result ≡ role_number self }
-    {
-        match self {
-            Self::Fetch => 0,
-            Self::Decode => 1,
-            Self::Issue => 2,
-            Self::Execute => 3,
-            Self::Memory => 4,
-            Self::Writeback => 5,
-            Self::Commit => 6,
-            Self::Other => 7,
-        }
+#[tactic(auto, unfolding(crate::specs::Numbers::role_number))]
+impl From<PipelineStageRole> for u8 {
+    ghost from_gives = { λ role number. number ≡ role_number role };
+
+    fn from(role: PipelineStageRole) -> u8 {
+        role as u8
     }
 }
 
-// The role with a number.
-pub fn role_of(number: u8) -> MaybeRole
-    ensures { maybe_role result ≡ role_of number }
-{
-    let n = number as usize;
-    if n < PipelineStageRole::COUNT {
-        MaybeRole::Some(PipelineStageRole::ALL[n])
-    } else {
-        MaybeRole::Nothing
+#[tactic(auto, unfolding(crate::specs::Cases::role_of))]
+impl TryFrom<u8> for PipelineStageRole {
+    type Error = UnknownNumber;
+
+    ghost try_from_gives = { λ number r. result_ok r ≡ role_of number };
+
+    fn try_from(number: u8) -> Result<Self, UnknownNumber> {
+        Self::ALL
+            .get(number as usize)
+            .copied()
+            .ok_or(UnknownNumber(number))
     }
 }
 
-impl PipelineEdgeKind {
-    pub fn number(self) -> u8
-        ensures { result ≡ edge_number self }
-    {
-        match self {
-            Self::Sequential => 0,
-            Self::Forward => 1,
-            Self::Feedback => 2,
-        }
-    }
-}
+impl PipelineEdgeKind {}
 
-impl PipelineTimelineState {
-    pub fn number(self) -> u8
-        ensures { result ≡ state_number self }
-    {
-        match self {
-            Self::Empty => 0,
-            Self::Active => 1,
-            Self::Speculative => 2,
-            Self::Stalled => 3,
-            Self::Bubble => 4,
-            Self::Flushed => 5,
-        }
-    }
-}
+impl PipelineTimelineState {}
 
 impl PipelineEntryPhase {
-    pub fn label(self) -> Label
-        ensures { Means label_text LabelOk result (entry_label self) }
+    #[tactic(auto, unfolding(crate::specs::Labels::entry_label, crate::specs::Labels::labels))]
+    pub fn label(self) -> &'static str
+        ensures { result.now ≡ entry_label self }
     {
         match self {
-            Self::Free => label_of(b"free"),
-            Self::Waiting => label_of(b"wait"),
-            Self::Armed => label_of(b"armed"),
-            Self::Executing => label_of(b"exec"),
-            Self::Finished => label_of(b"ready"),
-            Self::Committing => label_of(b"commit"),
+            Self::Free => "free",
+            Self::Waiting => "wait",
+            Self::Armed => "armed",
+            Self::Executing => "exec",
+            Self::Finished => "ready",
+            Self::Committing => "commit",
         }
     }
 
     pub fn occupied(self) -> bool
         ensures { result ≡ occupied self }
     {
-        match self {
-            Self::Free => false,
-            Self::Waiting => true,
-            Self::Armed => true,
-            Self::Executing => true,
-            Self::Finished => true,
-            Self::Committing => true,
-        }
-    }
-
-    pub fn number(self) -> u8
-        ensures { result ≡ entry_number self }
-    {
-        match self {
-            Self::Free => 0,
-            Self::Waiting => 1,
-            Self::Armed => 2,
-            Self::Executing => 3,
-            Self::Finished => 4,
-            Self::Committing => 5,
-        }
+        self != Self::Free
     }
 }
 
-impl Phase {
-    pub fn number(self) -> u8
-        ensures { result ≡ phase_number self }
-    {
-        match self {
-            Self::Wait => 0,
-            Self::Read => 1,
-            Self::Execute => 2,
-            Self::Write => 3,
-        }
+#[tactic(auto, unfolding(crate::specs::Numbers::entry_number))]
+impl From<PipelineEntryPhase> for u8 {
+    ghost from_gives = { λ phase number. number ≡ entry_number phase };
+
+    fn from(phase: PipelineEntryPhase) -> u8 {
+        phase as u8
     }
 }
+
+impl Phase {}
+
+#[tactic(auto, unfolding(crate::specs::Numbers::edge_number))]
+impl From<PipelineEdgeKind> for u8 {
+    ghost from_gives = { λ kind number. number ≡ edge_number kind };
+
+    fn from(kind: PipelineEdgeKind) -> u8 {
+        kind as u8
+    }
+}
+
+#[tactic(auto, unfolding(crate::specs::Numbers::state_number))]
+impl From<PipelineTimelineState> for u8 {
+    ghost from_gives = { λ state number. number ≡ state_number state };
+
+    fn from(state: PipelineTimelineState) -> u8 {
+        state as u8
+    }
+}
+
+#[tactic(auto, unfolding(crate::specs::Numbers::phase_number))]
+impl From<Phase> for u8 {
+    ghost from_gives = { λ phase number. number ≡ phase_number phase };
+
+    fn from(phase: Phase) -> u8 {
+        phase as u8
+    }
+}
+
+// The number for no.
+impl From<Refusal> for u8 {
+    ghost from_gives = { λ refusal number. number ≡ refusal_number refusal };
+
+    fn from(refusal: Refusal) -> u8 {
+        refusal as u8
+    }
+}
+
+impl fmt::Display for Refusal {
+    fn fmt<W: fmt::Write>(&self, f: &mut fmt::Formatter<W>) -> fmt::Result {
+        write!(f, "refused with number {}", u8::from(*self))
+    }
+}
+
+impl Error for Refusal {}
 
 impl PipelineStats {
     // Every counter at 0.
     pub fn new() -> Self
         ensures { result ≡ no_stats }
     {
-        Self {
-            cycles: 0,
-            committed: 0,
-            stalls: 0,
-            raw_stalls: 0,
-            load_use_stalls: 0,
-            branch_stalls: 0,
-            functional_unit_stalls: 0,
-            memory_stalls: 0,
-            waw_stalls: 0,
-            war_stalls: 0,
-            flushes: 0,
-            branches: 0,
-        }
+        Self::default()
     }
 }
 
@@ -505,5 +478,5 @@ impl PipelineEdge {
 pub fn saturating_add(a: u64, b: u64) -> u64
     ensures { result ≡ saturating_add a b }
 {
-    if a <= u64::MAX - b { a + b } else { u64::MAX }
+    a.saturating_add(b)
 }
