@@ -1,9 +1,9 @@
 -- Names that a caller pushes are taken or refused as the names themselves are.
 use Rattle.std.proofs.Common.{◌≡◌, ℕ, ◌<◌, ◌≤◌, min, false, ◌||◌, ltb, List, [], ◌∷◌, ◌++◌, length, take, sym, refl, ap, ◌∙◌, subst, ap₂, ⊎_elim, arith, length-append, length-take, take_all, ltb-false, le-ltb, lt-ltb}
-use mathlib.Core.Option.{Option}
+use Rattle.std.specs.Prelude.{Option}
 use lib.Seq.{take-append-le}
 use Rattle.laws.specs.Optional.{when_some}
-use Rattle.laws.specs.Lists.{any}
+use Rattle.std.specs.List.{list_any}
 use Rattle.laws.specs.Texts.{Text}
 use Rattle.laws.proofs.Tests.{lt-or-ge, cond-lt, cond-ge}
 use Rattle.model.specs.Op.{info_of}
@@ -57,7 +57,7 @@ module _ {s s' w w' : List Text} (t : Text) (n d : Option Text) (p : ℕ) (a : A
   pub alike-bad : bad_info (info_of t n d s w p) ≡ bad_info (info_of t n d s' w' p)
   unfolding bad_info
   alike-bad =
-      ap₂ (λ u v. bad_text 64 t || when_some n false (bad_text 64) || when_some d false (bad_text 16) || any (bad_text 16) u || any (bad_text 16) v)
+      ap₂ (λ u v. bad_text 64 t || when_some n false (bad_text 64) || when_some d false (bad_text 16) || list_any (bad_text 16) u || list_any (bad_text 16) v)
       a.first b.first
 
   pub alike-many : too_many (info_of t n d s w p) ≡ too_many (info_of t n d s' w' p)

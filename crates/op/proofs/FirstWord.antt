@@ -1,37 +1,13 @@
 -- The first word of a text is what it is called: by its place, and as the first piece of splitting at white space.
-use Rattle.std.proofs.Common.{◌≡◌, ℕ, ◌-◌, ◌≤◌, not, eqb, List, [], ◌∷◌, ◌++◌, length, take, drop, sym, refl, ap, ◌∙◌, subst, ⊎_elim, append-nil, arith, length-drop, length-take, take_all, eqb-true}
+use Rattle.std.proofs.Common.{◌≡◌, ℕ, not, eqb, List, [], ◌∷◌, ◌++◌, sym, refl, ap, ◌∙◌, subst, ⊎_elim, append-nil, arith, eqb-true}
 use borrow.Author.Tests.{eqb-false}
 use Rattle.laws.specs.Lists.{All, head, keep, is_empty}
 use Rattle.laws.specs.Optional.{value_or}
 use Rattle.laws.specs.Texts.{Text, before, bytes, onto_first, pieces}
 use Rattle.laws.proofs.Tests.{cond-eq, cond-ne, true-or-false}
 use Rattle.model.specs.Op.{skip_spaces, to_space, or_question, first_word}
-use Rattle.op.specs.FirstWord.{or_text, word_or, WordStart, WordEnd, space, AtSpace, IsFirstWord, split_whitespace, FirstWords}
+use Rattle.op.specs.FirstWord.{or_text, word_or, space, AtSpace, IsFirstWord, split_whitespace, FirstWords}
 use Rattle.op.proofs.Scans.{skip-space, skip-word, to_end, to-more}
-
--- ── The part that mnemonic hands back ─────────────────────────────────────────
-
-or_text-some : (n t : Text) → (length t ≡ 0 → ⊥) → or_text n t ≡ t
-unfolding or_text
-or_text-some n [] h = absurd (h refl)
-or_text-some n (x ∷ xs) h = refl
-
--- `rest` is t from place a on.
-module _ (n t : Text) {rest : Text} {a e : ℕ} (r : rest ≡ take (length t - a) (drop a t)) (s : WordStart t a) (w : WordEnd rest e) where
-  word : take e rest ≡ to_space (skip_spaces t)
-  word =
-      let l : length (drop a t) ≤ length t - a = simp length-drop (omega arith) in
-      w.is ∙ ap to_space (r ∙ take_all _ _ l ∙ s.is)
-
-  pub no_word : e ≡ 0 → n ≡ word_or n t
-  unfolding word_or or_text
-  no_word z = ap (or_text n) (ap (λ k. take k rest) (sym z) ∙ word)
-
-  pub some_word : (e ≡ 0 → ⊥) → take e rest ≡ word_or n t
-  unfolding word_or
-  some_word h =
-      sym (or_text-some n (take e rest) (λ z. h (omega (arith, length-take e rest, w.most))))
-      ∙ ap (or_text n) word
 
 -- With "?" lent it is the model's first word.
 word_or-question : (t : Text) → word_or (bytes "?") t ≡ first_word t

@@ -1,5 +1,5 @@
 -- The first elements of a list: as many as are asked for, or all.
-use Rattle.std.proofs.Common.{◌≡◌, ℕ, ◌<◌, ◌≤◌, min, List, [], ◌∷◌, length, get_or, take, drop, sym, refl, ap, ◌∙◌, ⊎_elim, arith, drop_of_length-le, take_all}
+use Rattle.std.proofs.Common.{◌≡◌, ℕ, ◌<◌, ◌≤◌, min, List, [], ◌∷◌, length, get_or, take, sym, refl, ap, ◌∙◌, ⊎_elim, arith, take_all}
 use Rattle.laws.proofs.Tests.{lt-or-ge}
 
 module _ {A : Type 0} (l : List A) (n : ℕ) {k : ℕ} (e : k ≡ min n (length l)) where
@@ -11,15 +11,6 @@ module _ {A : Type 0} (l : List A) (n : ℕ) {k : ℕ} (e : k ≡ min n (length 
 
       past : length l ≤ n → take k l ≡ take n l
       past h = take_all k l (omega arith) ∙ sym (take_all n l h)
-
-  pub drop-least : drop k l ≡ drop n l
-  drop-least = ⊎_elim within past (lt-or-ge n (length l))
-    where
-      within : n < length l → drop k l ≡ drop n l
-      within h = let q : k ≡ n = omega arith in ap (λ j. drop j l) q
-
-      past : length l ≤ n → drop k l ≡ drop n l
-      past h = let q : length l ≤ k = omega arith in drop_of_length-le l q ∙ sym (drop_of_length-le l h)
 
 -- A list of four, by its places.
 pub four : {A : Type 0} (l : List A) (d : A) → length l ≡ 4 → l ≡ get_or l 0 d ∷ get_or l 1 d ∷ get_or l 2 d ∷ get_or l 3 d ∷ []

@@ -1,12 +1,17 @@
 -- A list of names in an array: its length, its first names, and one more.
-use Rattle.std.proofs.Common.{◌≡◌, ℕ, zero, suc, ◌+◌, ◌-◌, ◌<◌, ◌≤◌, min, Bool, false, cond, ◌||◌, ltb, List, [], ◌∷◌, ◌++◌, map, length, take, set, replicate, sym, refl, ap, ◌∙◌, ⊎_elim, append_assoc, append-nil, arith, length-append, length-set, length-take, take_all, take_at}
+use Rattle.std.proofs.Common.{◌≡◌, ℕ, ◌+◌, ◌-◌, ◌<◌, ◌≤◌, min, Bool, false, cond, ◌||◌, ltb, List, [], ◌∷◌, ◌++◌, map, length, take, set, replicate, sym, refl, ap, ap₂, option_map, ◌∙◌, ⊎_elim, append_assoc, append-nil, arith, length-append, length-set, length-take, take_all, take_at}
 use lib.ListN.{length-replicate, length-map, replicate-append-replicate}
-use lib.Seq.{take-nil}
-use Rattle.laws.specs.Lists.{any}
+use Rattle.std.proofs.lemmas.List.{take-map}
+use Rattle.std.specs.List.{list_any}
 use Rattle.laws.specs.Texts.{Text}
-use Rattle.laws.proofs.Tests.{lt-or-ge, cond-lt, cond-ge, or-next}
+use Rattle.laws.proofs.Tests.{lt-or-ge, cond-lt, cond-ge}
 use Rattle.laws.proofs.Shift.{view-pushed}
-use Rattle.op.specs.View.{listed}
+use Rattle.laws.specs.Optional.{when_some}
+use Rattle.model.specs.Calls.{bad_text, bad_info}
+use Rattle.op.specs.declared.chars.Chars.{Chars}
+use Rattle.op.specs.declared.PipelineOp.{PipelineOp}
+use Rattle.op.specs.Chars.{view_text}
+use Rattle.op.specs.View.{listed, view_op}
 use Rattle.op.specs.Build.{pushed}
 
 module _ {A : Type 0} (v : A → Text) (most n : ℕ) (l : List A) (all : length l ≡ most) where
@@ -61,10 +66,32 @@ module _ {A : Type 0} (v : A → Text) (most n : ℕ) (l : List A) (all : length
 
 -- ── One that is refused ───────────────────────────────────────────────────────
 
--- What does not pass can stand behind.
-pub any-padded : {A : Type 0} (p : A → Bool) (x : A) → p x ≡ false → (l : List A) (n k : ℕ) → any p (take n (l ++ replicate k x)) ≡ any p (take n l)
-unfolding any
-any-padded p x h l zero k = refl
-any-padded p x h [] (suc n) zero = refl
-any-padded p x h [] (suc n) (suc k) = or-next _ h ∙ any-padded p x h [] n k ∙ ap (any p) (take-nil n)
-any-padded p x h (y ∷ l) (suc n) k = ap (λ b. p y || b) (any-padded p x h l n k)
+any-map : {A : Type 0} (v : A → Text) (p : Text → Bool) (l : List A) → list_any p (map v l) ≡ list_any (λ x. p (v x)) l
+any-map v p [] = refl
+any-map v p (x ∷ l) = ap (λ b. p (v x) || b) (any-map v p l)
+
+-- One of the first `most` passes a test: of those in the array, since there are no more.
+listed-any : {A : Type 0} (v : A → Text) (p : Text → Bool) (most n : ℕ) (l : List A) → length l ≡ most
+    → list_any p (take most (listed most n (map v l))) ≡ list_any (λ x. p (v x)) (take n l)
+listed-any v p most n l all = ap (list_any p) (listed-first v most n l all ∙ take-map v n l) ∙ any-map v p (take n l)
+
+-- The test of an operation, at what it has in its arrays.
+pub bad_op : (o : PipelineOp) → length o.sources ≡ 8 → length o.writes ≡ 4
+    → bad_info (view_op o).info
+    ≡ (bad_text 64 (view_text {N = 64} o.disassembly) || when_some (option_map (view_text {N = 64}) o.fault) false (bad_text 64)
+    || when_some (option_map (view_text {N = 16}) o.destination) false (bad_text 16)
+    || list_any (λ (x : Chars 16). bad_text 16 (view_text {N = 16} x)) (take o.sources_len o.sources)
+    || list_any (λ (x : Chars 16). bad_text 16 (view_text {N = 16} x)) (take o.writes_len o.writes))
+unfolding bad_info view_op
+bad_op o s w =
+    ap₂
+    (λ u v. bad_text 64 (view_text {N = 64} o.disassembly) || when_some (option_map (view_text {N = 64}) o.fault) false (bad_text 64)
+    || when_some (option_map (view_text {N = 16}) o.destination) false (bad_text 16) || u || v)
+    (listed-any (view_text {N = 16}) (bad_text 16) 8 o.sources_len o.sources s)
+    (listed-any (view_text {N = 16}) (bad_text 16) 4 o.writes_len o.writes w)
+
+-- ── What the checks of the code cite ──────────────────────────────────────────
+
+pub ruleset pushes = (push-within, push-past)
+
+pub ruleset counts = (listed-length)

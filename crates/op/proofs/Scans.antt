@@ -1,12 +1,11 @@
 -- The two scans of a first word: over the leading spaces, and over the word.
-use Rattle.std.proofs.Common.{◌≡◌, ℕ, ◌+◌, ◌<◌, ◌≤◌, [], ◌∷◌, ◌++◌, length, get_or, take, drop, sym, refl, ap, ◌∙◌, append-nil, arith, drop_of_length-le}
-use lib.Seq.{append_snoc}
+use Rattle.std.proofs.Common.{◌≡◌, ℕ, ◌-◌, ◌<◌, ◌≤◌, Bool, true, false, not, ◌==◌, eqb, List, [], ◌∷◌, length, take, drop, position, unwrap_or, Some, None, sym, refl, ap, ◌∙◌, ⊎_elim, arith, one-add, length-drop, drop_of_length-le, take_all}
+use Rattle.std.specs.List.{position_or_len}
+use Rattle.std.proofs.lemmas.List.Sums.{prefix_len-le-length}
 use Rattle.laws.specs.Texts.{Text, before}
-use Rattle.laws.proofs.Tests.{cond-eq, cond-ne}
-use Rattle.laws.proofs.Slices.{list-next, seen-take}
-use Rattle.laws.proofs.Search.{Scan}
+use Rattle.laws.proofs.Tests.{cond-eq, cond-ne, true-or-false, lt-or-ge, cond-lt, cond-ge}
 use Rattle.model.specs.Op.{skip_spaces, to_space}
-use Rattle.op.specs.FirstWord.{WordStart, WordEnd}
+use Rattle.op.specs.FirstWord.{or_text, word_or}
 
 -- ── What each does at a byte ──────────────────────────────────────────────────
 
@@ -27,48 +26,72 @@ module _ {x : ℕ} where
   unfolding before
   to-more h xs = cond-ne _ _ h
 
--- ── Over the spaces ───────────────────────────────────────────────────────────
+-- ── What `position` finds ─────────────────────────────────────────────────────
 
-abbrev pub Skipped : Text → ℕ → Type 0
-Skipped t i = Scan (λ (j : ℕ). skip_spaces) 0 t (length t) i i
+abbrev black : ℕ → Bool
+black b = not (b == 32)
 
-module _ (t : Text) {i : ℕ} (e : Skipped t i) where
-  pub start-here : i < length t → (get_or t i 0 ≡ 32 → ⊥) → WordStart t i
-  start-here h q =
-      let s = list-next t 0 h in
-      record { most = e.most; is = s.is ∙ sym (e.is ∙ ap skip_spaces s.is ∙ skip-word q _) }
+abbrev white : ℕ → Bool
+white b = b == 32
 
-  pub start-last : length t ≤ i → WordStart t i
-  unfolding skip_spaces
-  start-last h =
-      let d = drop_of_length-le t h in
-      record { most = e.most; is = d ∙ sym (e.is ∙ ap skip_spaces d) }
+skipped : (t : Text) → drop (position_or_len black t) t ≡ skip_spaces t
+unfolding skip_spaces
+skipped [] = refl
+skipped (x ∷ t) = ⊎_elim (λ e. rw e (rw one-add (skipped t))) (λ e. rw e refl) (true-or-false (eqb x 32))
 
--- ── Over the word ─────────────────────────────────────────────────────────────
+to-word : (t : Text) → take (position_or_len white t) t ≡ to_space t
+unfolding before
+to-word [] = refl
+to-word (x ∷ t) = ⊎_elim (λ e. rw e refl) (λ e. rw e (rw one-add (ap (λ u. x ∷ u) (to-word t)))) (true-or-false (eqb x 32))
 
--- The first i bytes are of the word.
-pub record Within (t : Text) (i : ℕ) : Type 0 where
-  pub most : i ≤ length t
-  pub is : take i t ++ to_space (drop i t) ≡ to_space t
+-- Where the first word starts there is one.
+starts : (t : Text) → position_or_len black t < length t → to_space (skip_spaces t) ≡ [] → ⊥
+unfolding skip_spaces before
+starts [] h e = omega arith
+starts (x ∷ t) h q =
+    ⊎_elim
+    (λ (e : eqb x 32 ≡ true). let k = rw e at h in starts t (omega arith) (rw e at q))
+    (λ (e : eqb x 32 ≡ false). let k = rw e at q in let m = rw e at k in cc)
+    (true-or-false (eqb x 32))
 
-pub within_first : (t : Text) → Within t 0
-within_first t = record { most = omega arith; is = refl }
+module _ {X : Type 0} (p : X → Bool) (t : List X) where
+  at-some : {i : ℕ} → position p t ≡ Some i → (position_or_len p t ≡ i) × (i < length t)
+  at-some {i} e = ⊎_elim
+      (λ h. let q : position_or_len p t ≡ i = cc (cond-lt (Some (position_or_len p t)) None h) in (q, omega arith))
+      (λ h. absurd (cc (cond-ge (Some (position_or_len p t)) None h)))
+      (lt-or-ge (position_or_len p t) (length t))
 
-module _ (t : Text) {i : ℕ} (e : Within t i) where
-  pub within-next : i < length t → (get_or t i 0 ≡ 32 → ⊥) → Within t (i + 1)
-  within-next h q =
-      let s = list-next t 0 h in
-      record {
-        most = omega arith;
-        is = ap (λ u. u ++ to_space (drop (i + 1) t)) (seen-take s) ∙ append_snoc (take i t) _ _ ∙ rw (s.is, to-more q) at e.is;
-      }
+  at-none : position p t ≡ None → length t ≤ position_or_len p t
+  at-none e = ⊎_elim (λ h. absurd (cc (cond-lt (Some (position_or_len p t)) None h))) (λ h. h) (lt-or-ge (position_or_len p t) (length t))
 
-  ends : to_space (drop i t) ≡ [] → WordEnd t i
-  ends d = record { most = e.most; is = sym (append-nil (take i t)) ∙ rw d at e.is }
+  at-end : unwrap_or (position p t) (length t) ≡ position_or_len p t
+  at-end = ⊎_elim
+      (λ h. ap (λ o. unwrap_or o (length t)) (cond-lt _ _ h))
+      (λ h. ap (λ o. unwrap_or o (length t)) (cond-ge _ _ h) ∙ (omega (arith, prefix_len-le-length (λ x. not (p x)) t)))
+      (lt-or-ge (position_or_len p t) (length t))
 
-  pub within_end : i < length t → get_or t i 0 ≡ 32 → WordEnd t i
-  within_end h q = ends (ap to_space (list-next t 0 h).is ∙ to_end q _)
+-- ── The word between the two ──────────────────────────────────────────────────
 
-  pub within-last : length t ≤ i → WordEnd t i
-  unfolding before
-  within-last h = ends (ap to_space (drop_of_length-le t h))
+or_text-some : (n t : Text) → (t ≡ [] → ⊥) → or_text n t ≡ t
+unfolding or_text
+or_text-some n [] h = absurd (h refl)
+or_text-some n (x ∷ xs) h = refl
+
+pub no_word : (n t : Text) → position black t ≡ None → n ≡ word_or n t
+unfolding word_or or_text before
+no_word n t e =
+    let d : skip_spaces t ≡ [] = sym (skipped t) ∙ drop_of_length-le t (at-none black t e) in
+    ap (λ u. or_text n (to_space u)) (sym d)
+
+-- `rest` is t from place i on.
+pub some_word : (n t rest : Text) (i e : ℕ) → position black t ≡ Some i → rest ≡ take (length t - i) (drop i t)
+    → e ≡ unwrap_or (position white rest) (length rest) → take e rest ≡ word_or n t
+unfolding word_or
+some_word n t rest i e p r q =
+    let a = at-some black t p in
+    let k : length (drop i t) ≤ length t - i = simp length-drop (omega arith) in
+    let d : rest ≡ skip_spaces t = r ∙ take_all _ _ k ∙ ap (λ j. drop j t) (sym a.0) ∙ skipped t in
+    let w : take e rest ≡ to_space (skip_spaces t) = ap (λ j. take j rest) (q ∙ at-end white rest) ∙ to-word rest ∙ ap to_space d in
+    w ∙ sym (or_text-some n _ (starts t (omega (arith, a.0, a.1))))
+
+pub ruleset words = (no_word, some_word)

@@ -1,13 +1,15 @@
 -- A text in an array: what a length past the array's end gives, and what one within it gives.
-use Rattle.std.proofs.Common.{◌≡◌, ℕ, ◌<◌, ◌≤◌, min, Bool, true, false, not, T, List, ◌++◌, length, take, drop, replicate, sym, refl, ap, ◌∙◌, ⊎_elim, arith, length-take-le, take_all, take_at, le-ltb, lt-ltb}
+use Rattle.std.proofs.Common.{◌≡◌, ℕ, ◌<◌, ◌≤◌, min, true, false, ◌&&◌, eqb, nat_eq, List, [], ◌∷◌, ◌++◌, length, take, replicate, sym, refl, ap, ◌∙◌, ⊎_elim, arith, length-take, length-take-le, take_all, take-take, le-ltb, lt-ltb}
 use lib.ListN.{length-replicate}
-use Rattle.laws.specs.Lists.{any}
+use lib.Pointwise.{pointwise}
+use Rattle.std.proofs.lemmas.List.{take-append-le}
+use Rattle.std.specs.List.{list_any}
 use Rattle.laws.specs.Texts.{same}
 use Rattle.laws.proofs.Tests.{cond-lt, cond-ge, or_yes, or-next, lt-or-ge}
-use Rattle.laws.proofs.Same.{same_self}
+use Rattle.op.specs.Same.{same_yes}
 use Rattle.laws.proofs.Search.{same-lengths}
 use Rattle.model.specs.Calls.{bad_byte, bad_text}
-use Rattle.op.specs.View.{shown}
+use Rattle.op.specs.Chars.{shown}
 
 module _ (most len : ℕ) (bytes : List ℕ) where
   pub shown-long : most < len → shown most len bytes ≡ replicate len 0
@@ -22,7 +24,7 @@ module _ (most len : ℕ) (bytes : List ℕ) where
   unfolding bad_text
   bad-long h = rw (shown-long h, length-replicate len) (or_yes _ (lt-ltb most len h))
 
-  pub bad-short : len ≤ most → len ≤ length bytes → bad_text most (shown most len bytes) ≡ any bad_byte (take len bytes)
+  pub bad-short : len ≤ most → len ≤ length bytes → bad_text most (shown most len bytes) ≡ list_any bad_byte (take len bytes)
   unfolding bad_text
   bad-short h k = rw (shown-short h, length-take-le len bytes k) (or-next _ (le-ltb most len h))
 
@@ -35,20 +37,18 @@ module _ (most len : ℕ) (bytes : List ℕ) where
       short : len ≤ most → length (shown most len bytes) ≡ len
       short h = ap length (shown-short h) ∙ length-take-le len bytes (omega arith)
 
--- What is copied from s over an array of `most` bytes shows as s does.
-pub shown-copied : (most : ℕ) (s out : List ℕ) → most < 255
-    → shown most (min (length s) 255) (take most s ++ drop (length s) out) ≡ shown most (min (length s) 255) s
-shown-copied most s out h = ⊎_elim long short (lt-or-ge most (min (length s) 255))
+-- An array that begins with what fits of s shows as s does.
+pub shown_copied : (most n len : ℕ) (s r out : List ℕ) → n ≡ min (length s) most → len ≤ length s → r ≡ take n s → shown most len (r ++ out) ≡ shown most len s
+shown_copied most n len s r out e h q = ⊎_elim long short (lt-or-ge most len)
   where
-    long : most < min (length s) 255 → shown most (min (length s) 255) (take most s ++ drop (length s) out) ≡ shown most (min (length s) 255) s
-    long l = shown-long most _ _ l ∙ sym (shown-long most _ _ l)
+    long : most < len → shown most len (r ++ out) ≡ shown most len s
+    long l = shown-long most len _ l ∙ sym (shown-long most len s l)
 
-    short : min (length s) 255 ≤ most → shown most (min (length s) 255) (take most s ++ drop (length s) out) ≡ shown most (min (length s) 255) s
+    short : len ≤ most → shown most len (r ++ out) ≡ shown most len s
     short l =
-        let e : length s ≡ min (length s) 255 = omega arith in
-        let k : length s ≤ most = omega arith in
-        let m : length s ≤ min (length s) 255 = omega arith in
-        shown-short most _ _ l ∙ rw (take_all most s k) (take_at s _ _ e) ∙ sym (take_all _ s m) ∙ sym (shown-short most _ s l)
+        let k : len ≤ length (take n s) = simp length-take (omega arith) in
+        shown-short most len _ l
+        ∙ rw (q, take-append-le len (take n s) out k, take-take len n s (omega arith)) (sym (shown-short most len s l))
 
 -- A text that stays within the limit shows as it is, and any is refused as it is.
 module _ (most : ℕ) (s : List ℕ) (h : most < 255) where
@@ -70,26 +70,27 @@ module _ (most : ℕ) (s : List ℕ) (h : most < 255) where
 
 -- ── The same text? Two arrays of `most` bytes each ────────────────────────────
 
-T_true : (b : Bool) → T b → b ≡ true
-T_true true t = refl
-T_true false t = absurd t
+same_pointwise : (a b : List ℕ) → pointwise nat_eq a b ≡ same a b
+unfolding same
+same_pointwise [] [] = refl
+same_pointwise [] (y ∷ b) = refl
+same_pointwise (x ∷ a) [] = refl
+same_pointwise (x ∷ a) (y ∷ b) = ap (λ t. eqb x y && t) (same_pointwise a b)
 
 module _ (most n m : ℕ) (a b : List ℕ) where
   pub same-apart : length a ≡ most → length b ≡ most → (n ≡ m → ⊥) → same (shown most n a) (shown most m b) ≡ false
   same-apart p q h = same-lengths _ _ (λ e. h (sym (shown-length most n a p) ∙ e ∙ shown-length most m b q))
 
   pub same-long : n ≡ m → most < n → same (shown most n a) (shown most m b) ≡ true
-  same-long e h = rw (← e, shown-long most n a h, shown-long most n b h) (T_true _ (same_self (replicate n 0)))
+  same-long e h = rw (← e, shown-long most n a h, shown-long most n b h) (same_yes _ _ refl)
 
-  pub same-short : n ≡ m → n ≤ most → same (shown most n a) (shown most m b) ≡ same (take n a) (take n b)
-  same-short e h = rw (← e, shown-short most n a h, shown-short most n b h)
+  pub same-short : n ≡ m → n ≤ most → same (shown most n a) (shown most m b) ≡ pointwise nat_eq (take n a) (take n b)
+  same-short e h = rw (← e, shown-short most n a h, shown-short most n b h) (sym (same_pointwise (take n a) (take n b)))
 
--- ── A test that says no where another says yes ────────────────────────────────
+-- ── What the checks of the code cite ──────────────────────────────────────────
 
-pub yes_of : (t p : Bool) → t ≡ not p → not t ≡ true → p ≡ true
-yes_of t true e h = refl
-yes_of t false e h = sym (ap not e) ∙ h
+pub ruleset shows = (shown-long, shown-short)
 
-pub no_of : (t p : Bool) → t ≡ not p → not t ≡ false → p ≡ false
-no_of t true e h = sym (ap not e) ∙ h
-no_of t false e h = refl
+pub ruleset bads = (bad-long, bad-short)
+
+pub ruleset sames = (same-apart, same-long, same-short)

@@ -1,6 +1,5 @@
 -- What a caller builds an operation with (op.rs): with_length, branching, atomic, writing, also_writes, reading.
-use Rattle.std.specs.Prelude.{◌≡◌, ℕ, true, cond, ltb, List, [], ◌∷◌, ◌++◌, length, take}
-use Rattle.std.proofs.Math.Option.{Option, some}
+use Rattle.std.specs.Prelude.{◌≡◌, ℕ, true, cond, ltb, List, [], ◌∷◌, ◌++◌, length, take, Option, Some}
 use Rattle.laws.specs.Texts.{Text}
 use Rattle.model.specs.Op.{decoded, info_of, Given, given}
 
@@ -29,7 +28,7 @@ unfoldable pub with_write : Text → Given → Given
 with_write name g = with_operands g.info.destination g.info.sources (pushed 4 name g.info.writes) g
 
 unfoldable pub with_destination : Text → Given → Given
-with_destination name g = with_operands (some name) g.info.sources g.info.writes g
+with_destination name g = with_operands (Some name) g.info.sources g.info.writes g
 
 unfoldable pub with_source : Text → Given → Given
 with_source name g = with_operands g.info.destination (pushed 8 name g.info.sources) g.info.writes g

@@ -1,5 +1,5 @@
 -- What the first word of a text is.
-use Rattle.std.specs.Prelude.{◌≡◌, ℕ, ◌≤◌, not, List, [], ◌∷◌, ◌++◌, length, take, drop}
+use Rattle.std.specs.Prelude.{◌≡◌, ℕ, not, List, [], ◌∷◌, ◌++◌}
 use Rattle.laws.specs.Optional.{value_or}
 use Rattle.laws.specs.Lists.{All, head, is_empty, keep}
 use Rattle.laws.specs.Texts.{Text, bytes, pieces}
@@ -12,16 +12,6 @@ or_text other (x ∷ xs) = x ∷ xs
 
 unfoldable pub word_or : Text → Text → Text
 word_or other t = or_text other (to_space (skip_spaces t))
-
--- The leading spaces of t end at i.
-pub record WordStart (t : Text) (i : ℕ) : Type 0 where
-  pub most : i ≤ length t
-  pub is : drop i t ≡ skip_spaces t
-
--- The word at the front of t ends at i.
-pub record WordEnd (t : Text) (i : ℕ) : Type 0 where
-  pub most : i ≤ length t
-  pub is : take i t ≡ to_space t
 
 -- ── By its place: after the leading spaces, up to the next space or the end ───
 

@@ -1,41 +1,32 @@
 // mnemonic of ooo/scoreboard.rs: split_whitespace().next().unwrap_or("?").
-ghost use Rattle.std.specs.Prelude.{◌≡◌};
-ghost use Rattle.op.specs.FirstWord.{word_or, WordStart, WordEnd};
+ghost use Rattle.std.specs.Prelude.{◌≡◌, ◌<◌, not, ◌==◌, length, position, IfSome};
+ghost use Rattle.op.specs.FirstWord.{word_or};
 
-// Where the leading spaces of a text end.
-fn word_start(text: &[u8]) -> usize
-    ensures { WordStart text.now result }
+// Where the leading spaces of a text end and a word starts.
+fn word_start(text: &[u8]) -> Option<usize>
+    ensures at { result ≡ position (λ b. not (b == 32)) text.now }
+    ensures within { IfSome result (λ i. i < length text.now) }
 {
-    let mut i: usize = 0;
-    while i < text.len() {
-        if text[i] != 0x20 {
-            return i;
-        }
-        i += 1;
-    }
-    i
+    text.iter().position(|b| *b != 0x20)
 }
 
-// Where the word at the front of a text ends.
-fn word_end(text: &[u8]) -> usize
-    ensures { WordEnd text.now result }
+// Where the word at the front of a text ends, if before the text does.
+fn word_end(text: &[u8]) -> Option<usize>
+    ensures at { result ≡ position (λ b. b == 32) text.now }
+    ensures within { IfSome result (λ i. i < length text.now) }
 {
-    let mut i: usize = 0;
-    while i < text.len() {
-        if text[i] == 0x20 {
-            return i;
-        }
-        i += 1;
-    }
-    i
+    text.iter().position(|b| *b == 0x20)
 }
 
 // The first word of a text, as a part of it, or all of `none` where there is none.
+#[tactic(auto, using(crate::proofs::Scans::words))]
 pub fn mnemonic<'a>(text: &'a [u8], none: &'a [u8]) -> &'a [u8]
     ensures { result.now ≡ word_or none.now text.now }
 {
-    let a = word_start(text);
-    let rest = &text[a..];
-    let e = word_end(rest);
-    if e == 0 { none } else { &rest[..e] }
+    let Some(start) = word_start(text) else {
+        return none;
+    };
+    let rest = &text[start..];
+    let end = word_end(rest).unwrap_or(rest.len());
+    &rest[..end]
 }

@@ -1,8 +1,0 @@
--- No bytes.
-use Rattle.std.proofs.Common.{refl}
-use Rattle.op.specs.View.{views}
-use Rattle.op.proofs.Text.empty.Goals as goal
-
-pub returns : goal.returns
-unfolding views
-returns c = refl
