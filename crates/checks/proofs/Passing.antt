@@ -3,7 +3,7 @@ use Prim.Native.Nat.{ℕ, ◌≤◌, ◌<◌}
 use mathlib.Core.Path.{◌≡◌, refl, sym, ap, ◌∙◌}
 use mathlib.Core.Bool.{Bool, true, false, not}
 use mathlib.Core.Logic.{⊎_elim}
-use mathlib.Core.Option.{Option, none, some}
+use Rattle.std.specs.Prelude.{Option, None, Some}
 use mathlib.Core.List.{List, [], ◌∷◌, ◌++◌}
 use native.Mathlib.Omega.{arith}
 use Rattle.laws.proofs.Tests.{true-or-false, lt-or-ge}
@@ -12,25 +12,25 @@ use Rattle.model.specs.Calls.{Check, first_of}
 use Rattle.checks.specs.Numbered.{numbered}
 use Rattle.checks.proofs.Table.{number, passed, held}
 
-pub first_some : (ps qs : List Check) {n : ℕ} → first_of ps ≡ some n → first_of (ps ++ qs) ≡ some n
+pub first_some : (ps qs : List Check) {n : ℕ} → first_of ps ≡ Some n → first_of (ps ++ qs) ≡ Some n
 unfolding first_of
 first_some [] qs {n} h = none-some n h
 first_some (p ∷ ps) qs h =
     ⊎_elim (λ t. held p.0 (ps ++ qs) t ∙ sym (held p.0 ps t) ∙ h)
     (λ f. passed p.0 (ps ++ qs) f ∙ first_some ps qs (sym (passed p.0 ps f) ∙ h)) (true-or-false p.1)
 
-pub row-passes : (n : ℕ) {b : Bool} (ps : List Check) → first_of ((n, b) ∷ ps) ≡ none → (b ≡ false) × (first_of ps ≡ none)
+pub row-passes : (n : ℕ) {b : Bool} (ps : List Check) → first_of ((n, b) ∷ ps) ≡ None → (b ≡ false) × (first_of ps ≡ None)
 row-passes n {b} ps h =
     ⊎_elim (λ t. none-some n (sym h ∙ held n ps t)) (λ f. (f, sym (passed n ps f) ∙ h)) (true-or-false b)
 
-pub first-none : (ps qs : List Check) → first_of ps ≡ none → first_of (ps ++ qs) ≡ first_of qs
+pub first-none : (ps qs : List Check) → first_of ps ≡ None → first_of (ps ++ qs) ≡ first_of qs
 first-none [] qs h = refl
 first-none (p ∷ ps) qs h = let r = row-passes p.0 ps h in passed p.0 (ps ++ qs) r.0 ∙ first-none ps qs r.1
 
-pub some_number : {n : ℕ} {o : Option ℕ} → numbered n ≡ o → (n ≡ 0 → ⊥) → o ≡ some n
+pub some_number : {n : ℕ} {o : Option ℕ} → numbered n ≡ o → (n ≡ 0 → ⊥) → o ≡ Some n
 some_number {n} e h = sym e ∙ number n (⊎_elim (λ (l : 0 < n). l) (λ (l : n ≤ 0). absurd (h (omega arith))) (lt-or-ge 0 n))
 
-pub no_number : {n : ℕ} {o : Option ℕ} → numbered n ≡ o → n ≡ 0 → o ≡ none
+pub no_number : {n : ℕ} {o : Option ℕ} → numbered n ≡ o → n ≡ 0 → o ≡ None
 unfolding numbered
 no_number e h = sym e ∙ ap numbered h
 

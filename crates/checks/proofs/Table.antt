@@ -2,21 +2,18 @@
 use Prim.Native.Nat.{ℕ, ◌≤◌, ◌<◌}
 use mathlib.Core.Path.{◌≡◌, refl, sym, ap, ◌∙◌}
 use mathlib.Core.Bool.{Bool, true, false, cond}
-use mathlib.Core.Logic.{⊎_elim}
-use mathlib.Core.Option.{none, some}
+use Rattle.std.specs.Prelude.{None, Some}
 use mathlib.Core.List.{List, [], ◌∷◌}
 use native.Mathlib.Omega.{arith}
 use borrow.Author.Tests.{ne_eqb}
 use Rattle.laws.specs.Optional.{is_none}
-use Rattle.laws.specs.Lists.{All}
-use Rattle.laws.proofs.Choices.{none-some, some_inj}
-use Rattle.laws.proofs.Tests.{cond_no, cond-lt, cond-ge, true-or-false}
+use Rattle.laws.proofs.Tests.{cond_no, cond-lt, cond-ge}
 use Rattle.model.specs.Calls.{Check, first_of}
 use Rattle.registers.specs.View.{claimed as index}
-use Rattle.config.specs.declared.Checked.{Checked}
-use Rattle.config.specs.declared.Checked.TheVariants.{Fine, Refused}
-use Rattle.config.specs.Checks.{checked_number}
-use Rattle.checks.specs.Numbered.{numbered, NumberedWell}
+use Rattle.capability.specs.declared.Refusal.{Refusal}
+use Rattle.capability.specs.declared.Refusal.TheVariants.{TooBig, BadText, ExtraOverflows, InCycle, NotInCycle, NoOffer, Unsettled, NotInvited, TooManyNames, NamesFull, NumbersUsedUp, NoSuchKind, ShortMemory, BadForm}
+use Rattle.capability.specs.Refusals.{refusal_number}
+use Rattle.checks.specs.Numbered.{numbered}
 
 -- The rows up to the one that refuses; 0 where none does.
 pub data Refuses : List Check → ℕ → Type 0 where
@@ -24,17 +21,17 @@ pub data Refuses : List Check → ℕ → Type 0 where
   miss : {n r : ℕ} {b : Bool} {ps : List Check} → b ≡ false → Refuses ps r → Refuses ((n, b) ∷ ps) r
   end : Refuses [] 0
 
-pub number : (n : ℕ) → 0 < n → numbered n ≡ some n
+pub number : (n : ℕ) → 0 < n → numbered n ≡ Some n
 unfolding numbered
-number n h = cond_no none (some n) (ne_eqb n 0 (λ e. omega arith))
+number n h = cond_no None (Some n) (ne_eqb n 0 (λ e. omega arith))
 
 pub passed : (n : ℕ) {b : Bool} (ps : List Check) → b ≡ false → first_of ((n, b) ∷ ps) ≡ first_of ps
 unfolding first_of
-passed n ps e = ap (λ t. cond t (some n) (first_of ps)) e
+passed n ps e = ap (λ t. cond t (Some n) (first_of ps)) e
 
-pub held : (n : ℕ) {b : Bool} (ps : List Check) → b ≡ true → first_of ((n, b) ∷ ps) ≡ some n
+pub held : (n : ℕ) {b : Bool} (ps : List Check) → b ≡ true → first_of ((n, b) ∷ ps) ≡ Some n
 unfolding first_of
-held n ps e = ap (λ t. cond t (some n) (first_of ps)) e
+held n ps e = ap (λ t. cond t (Some n) (first_of ps)) e
 
 pub refused : {ps : List Check} {r : ℕ} → Refuses ps r → numbered r ≡ first_of ps
 unfolding first_of numbered
@@ -42,26 +39,30 @@ refused (hit {n} {b} {ps} h e) = number n h ∙ sym (held n ps e)
 refused (miss {n} {r} {b} {ps} e f) = refused f ∙ sym (passed n ps e)
 refused end = refl
 
--- A table without number 0 refuses for none.
-pub above : (ps : List Check) (n : ℕ) → All (λ (p : Check). 0 < p.0) ps → first_of ps ≡ some n → 0 < n
-unfolding first_of
-above [] n a e = none-some n e
-above (p ∷ ps) n a e =
-    ⊎_elim (λ t. let q : p.0 ≡ n = some_inj _ _ (sym (held p.0 ps t) ∙ e) in omega (arith, a.0))
-    (λ f. above ps n a.1 (sym (passed p.0 ps f) ∙ e))
-    (true-or-false p.1)
-
-pub well : (r : Checked) (ps : List Check) → All (λ (p : Check). 0 < p.0) ps → checked_number r ≡ first_of ps → NumberedWell r
-unfolding checked_number
-well Fine ps a e = tt
-well (Refused n) ps a e = above ps n a (sym e)
+-- A refusal's number is never 0.
+pub numbered_refusal : (r : Refusal) → numbered (refusal_number r) ≡ Some (refusal_number r)
+unfolding numbered
+numbered_refusal TooBig = refl
+numbered_refusal BadText = refl
+numbered_refusal ExtraOverflows = refl
+numbered_refusal InCycle = refl
+numbered_refusal NotInCycle = refl
+numbered_refusal NoOffer = refl
+numbered_refusal Unsettled = refl
+numbered_refusal NotInvited = refl
+numbered_refusal TooManyNames = refl
+numbered_refusal NamesFull = refl
+numbered_refusal NumbersUsedUp = refl
+numbered_refusal NoSuchKind = refl
+numbered_refusal ShortMemory = refl
+numbered_refusal BadForm = refl
 
 -- ---- an offer: 64 is none
 
 pub no_offer : (w : ℕ) → 64 ≤ w → is_none (index w) ≡ true
 unfolding index
-no_offer w h = ap is_none (cond-ge (some w) none h)
+no_offer w h = ap is_none (cond-ge (Some w) None h)
 
 pub an-offer : (w : ℕ) → w < 64 → is_none (index w) ≡ false
 unfolding index
-an-offer w h = ap is_none (cond-lt (some w) none h)
+an-offer w h = ap is_none (cond-lt (Some w) None h)

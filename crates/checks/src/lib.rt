@@ -1,20 +1,22 @@
 // What calls are refused for, in the order that counts; 0 for nothing (model: Calls.checks).
-#![tactic(auto)]
+#![tactic(auto, unfolding(model::specs::Calls::first_of, crate::specs::Numbered::numbered, registers::specs::View::claimed))]
 
-ghost use Rattle.std.specs.Prelude.{◌≡◌, not, ◌&&◌, ◌||◌, [], ◌∷◌, ◌*◌, ◌≤◌, eqb, ltb};
+ghost use Rattle.std.specs.Prelude.{◌≡◌, not, ◌&&◌, ◌||◌, [], ◌∷◌, ◌*◌, ◌≤◌, eqb, ltb, slice_get};
 ghost use Rattle.laws.specs.Optional.{is_none};
-ghost use Rattle.laws.specs.Lists.{nth};
 ghost use Rattle.laws.specs.Numbers.{max64};
+ghost use Rattle.capability.specs.Refusals.{refusal_of};
 ghost use Rattle.model.specs.Config.{capacities};
 ghost use Rattle.model.specs.Calls.{first_of, bad_text, bad_info, too_many};
-ghost use Rattle.op.specs.View.{view_text, view_op};
+ghost use Rattle.op.specs.Chars.{view_text};
+ghost use Rattle.op.specs.View.{view_op};
 ghost use Rattle.config.specs.View.{view_machine};
-ghost use Rattle.config.specs.Checks.{checked_number, noted_specs};
+ghost use Rattle.config.specs.Checks.{noted_specs};
 ghost use Rattle.config.specs.Kept.{MachineOk};
 ghost use Rattle.registers.specs.View.{claimed as index};
-ghost use Rattle.checks.specs.Numbered.{numbered, NumberedWell};
+ghost use Rattle.checks.specs.Numbered.{numbered};
 
-use config::{Checked, Machine};
+use capability::Refusal;
+use config::Machine;
 use op::{PipelineOp, Text};
 
 // 13: cell memory under 200 bytes a row.
@@ -116,20 +118,21 @@ pub fn fault(note: Text) -> u8
 }
 
 // The number of a refusal, 0 for none.
-pub fn number_of(checked: Checked) -> u8
-    requires { NumberedWell checked }
-    ensures { numbered result ≡ checked_number checked }
+#[tactic(auto, using(crate::proofs::Table::numbered_refusal), unfolding(crate::specs::Numbered::numbered))]
+pub fn number_of(checked: Result<(), Refusal>) -> u8
+    ensures { numbered result ≡ refusal_of checked }
 {
     match checked {
-        Checked::Fine => 0,
-        Checked::Refused(no) => no,
+        Ok(()) => 0,
+        Err(refusal) => u8::from(refusal),
     }
 }
 
 // 4, 12, 1: in a cycle, no such kind, too many units.
+#[tactic(auto, unfolding(model::specs::Calls::first_of, crate::specs::Numbered::numbered, config::specs::Checks::capacity_refusal, config::specs::Checks::capacity_checks))]
 pub fn capacity(in_cycle: bool, machine: Machine, kind: usize, instances: u64) -> u8
     requires { MachineOk machine }
-    ensures { numbered result ≡ first_of ((4, in_cycle) ∷ (12, is_none (nth (view_machine machine).specs kind)) ∷ (1, ltb 64 (capacities (noted_specs kind instances (view_machine machine).specs))) ∷ []) }
+    ensures { numbered result ≡ first_of ((4, in_cycle) ∷ (12, is_none (slice_get (view_machine machine).specs kind)) ∷ (1, ltb 64 (capacities (noted_specs kind instances (view_machine machine).specs))) ∷ []) }
 {
     if in_cycle {
         return 4;

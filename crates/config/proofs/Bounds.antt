@@ -1,11 +1,12 @@
 -- The queue's depth is 1 to 15, and a class goes to a kind that is there.
 use Prim.Native.Nat.{ℕ, suc, ◌+◌, ◌-◌, ◌≤◌, ◌<◌}
 use mathlib.Core.Bool.{Bool, true, false, cond}
-use mathlib.Core.Option.{none, some}
+use Rattle.std.specs.Prelude.{None, Some}
 use mathlib.Core.List.{List, [], ◌∷◌}
 use native.Mathlib.Omega.{arith}
 use lib.ListN.{length}
-use Rattle.laws.specs.Optional.{value_or, or_else}
+use Rattle.laws.specs.Optional.{value_or}
+use Rattle.std.specs.Option.{option_or}
 use Rattle.laws.specs.Lists.{find_at}
 use Rattle.capability.specs.declared.PipelineStageRole.{PipelineStageRole}
 use Rattle.capability.specs.declared.PipelineInstructionClass.{PipelineInstructionClass}
@@ -17,7 +18,7 @@ unfolding find_at
 found_below p [] i d b h k = h
 found_below p (x ∷ l) i d b h k = one (p i x) (found_below p l (suc i) d b h (omega arith))
   where
-    one : (t : Bool) → value_or d (find_at p (suc i) l) < b → value_or d (or_else (cond t (some i) none) (find_at p (suc i) l)) < b
+    one : (t : Bool) → value_or d (find_at p (suc i) l) < b → value_or d (option_or (cond t (Some i) None) (find_at p (suc i) l)) < b
     one true q = omega arith
     one false q = q
 

@@ -2,7 +2,7 @@
 use Prim.Native.Nat.{ℕ}
 use mathlib.Core.Path.{◌≡◌, refl}
 use mathlib.Core.Bool.{cond}
-use mathlib.Core.Option.{some}
+use Rattle.std.specs.Prelude.{Some}
 use Rattle.model.specs.Scoreboard.{with_noted, set_capacity}
 use Rattle.model.specs.State.{State}
 use Rattle.model.specs.Calls.{capacity, first_of, checks, refusal}
@@ -10,7 +10,7 @@ use Rattle.config.specs.Checks.{noted_specs, noted, capacity_checks, capacity_re
 
 module _ (s : State) (kind n : ℕ) where
   -- Refusal 4 comes first.
-  pub refusal_is : refusal s (capacity kind n) ≡ cond s.front.in_cycle (some 4) (capacity_refusal kind n s.machine.specs)
+  pub refusal_is : refusal s (capacity kind n) ≡ cond s.front.in_cycle (Some 4) (capacity_refusal kind n s.machine.specs)
   unfolding refusal checks first_of with_noted noted_specs capacity_checks capacity_refusal
   refusal_is = refl
 

@@ -1,23 +1,29 @@
 -- The kinds of a kept machine, read and changed by place.
 use Prim.Native.Nat.{ℕ, ◌+◌, ◌≤◌, ◌<◌, max}
-use mathlib.Core.Path.{◌≡◌, ap, ◌∙◌}
-use mathlib.Core.Bool.{false}
-use mathlib.Core.Option.{none}
-use mathlib.Core.List.{[], map}
+use mathlib.Core.Path.{◌≡◌, refl, sym, ap, ◌∙◌}
+use mathlib.Core.Bool.{Bool, true, false, cond}
+use Rattle.std.specs.Prelude.{Option, None, Some, unwrap_or, sum_by}
+use Rattle.std.specs.Option.{option_or}
+use Rattle.std.specs.List.{position_from}
+use mathlib.Core.List.{List, [], ◌∷◌, map}
+use native.Mathlib.Numerals.{add-one}
 use native.Mathlib.Omega.{arith}
-use lib.ListN.{length, get_or, set, drop, length-set}
+use lib.ListN.{length, get_or, set, take, drop, length-set}
 use Rattle.laws.specs.Means.{Means}
-use Rattle.laws.proofs.Slices.{Seen, seen-get_or, seen-length, view-next, view-length, view-modify, slice-end, All-get_or, All-set}
+use Rattle.laws.specs.Lists.{All, find_at}
+use Rattle.laws.specs.Optional.{value_or}
+use Rattle.laws.proofs.Slices.{Seen, seen-get_or, seen-length, view-next, view-length, view-modify, slice-end, take-map, All-get_or, All-set, All-take}
 use Rattle.capability.specs.declared.PipelineInstructionClass.{PipelineInstructionClass}
 use Rattle.capability.specs.declared.PipelineInstructionClass.TheVariants.{Alu}
-use Rattle.model.specs.Config.{spec_index, with_capacity, capacities, with_specs}
+use Rattle.model.specs.Config.{UnitSpec, handles, spec_index, with_capacity, capacities, with_specs}
 use Rattle.config.specs.declared.Spec.{Spec}
 use Rattle.config.specs.declared.Machine.{Machine}
-use Rattle.config.specs.View.{view_spec, view_specs, view_machine}
+use Rattle.config.specs.View.{flag, view_spec, view_specs, view_machine}
 use Rattle.config.specs.Checks.{noted_specs, noted, capacity_refusal}
 use Rattle.config.specs.Kept.{SpecOk, MachineOk}
 use Rattle.config.proofs.Bounds.{spec_index-below}
-use Rattle.config.proofs.Units.{capacity-most, noted-sum, noted-least}
+use Rattle.config.proofs.Shapes.{given}
+use Rattle.config.proofs.Units.{kept_sum, capacity-most, noted-sum, noted-least}
 use Rattle.config.proofs.Checks.{Changes, changes}
 
 -- What a read past the array's end would give.
@@ -49,6 +55,34 @@ pub specs-end : (m : Machine) {i : ℕ} → m.specs_len ≤ i → drop i (view_m
 unfolding view_machine view_specs
 specs-end m h = slice-end (map view_spec m.specs) h
 
+-- The flags answer for the kinds.
+flags-find : (c : PipelineInstructionClass) (i : ℕ) (ks : List Spec) → All SpecOk ks
+    → position_from (λ (k : Spec). flag k.classes c) i ks ≡ find_at (λ (j : ℕ) (k : UnitSpec). handles c k) i (map view_spec ks)
+unfolding find_at
+flags-find c i [] a = refl
+flags-find c i (k ∷ ks) a =
+    rw (sym (a.0.takes c), flags-find c (i + 1) ks a.1, add-one) (choice (flag k.classes c) _)
+  where
+    choice : (b : Bool) (o : Option ℕ) → cond b (Some i) o ≡ option_or (cond b (Some i) None) o
+    choice true o = refl
+    choice false o = refl
+
+module _ (m : Machine) where
+  -- The first kind that takes a class, by the flags.
+  pub index_found : MachineOk m → (c : PipelineInstructionClass)
+      → unwrap_or (position_from (λ (k : Spec). flag k.classes c) 0 (take m.specs_len m.specs)) 0 ≡ spec_index (view_machine m).specs c
+  unfolding spec_index view_machine view_specs
+  index_found ok c =
+      given (position_from (λ (k : Spec). flag k.classes c) 0 (take m.specs_len m.specs)) 0
+      ∙ ap (value_or 0)
+      (flags-find c 0 (take m.specs_len m.specs) (All-take SpecOk m.specs_len m.specs ok.specs.each)
+      ∙ ap (find_at (λ (j : ℕ) (k : UnitSpec). handles c k) 0) (sym (take-map view_spec m.specs_len m.specs)))
+
+  -- The units of all kinds.
+  pub kinds_sum : sum_by (λ (k : Spec). k.capacity) (take m.specs_len m.specs) ≡ capacities (view_machine m).specs
+  unfolding view_machine view_specs
+  kinds_sum = kept_sum (take m.specs_len m.specs) 0 ∙ omega (arith, ap capacities (take-map view_spec m.specs_len m.specs))
+
 -- ── A capacity change ───────────────────────────────────────────────────────
 
 module _ {m : Machine} (ok : MachineOk m) {i : ℕ} (h : i < m.specs_len) where
@@ -59,13 +93,13 @@ module _ {m : Machine} (ok : MachineOk m) {i : ℕ} (h : i < m.specs_len) where
   there : i < length (view_machine m).specs
   there = seen-length (specs-next ok h)
 
-  pub kind-most : (get_or m.specs i spare).capacity ≤ capacities (view_machine m).specs
-  kind-most = omega (arith, capacity-most (view_machine m).specs (view_spec spare) there, same-capacity)
+  pub kind_most : (get_or m.specs i spare).capacity ≤ capacities (view_machine m).specs
+  kind_most = omega (arith, capacity-most (view_machine m).specs (view_spec spare) there, same-capacity)
 
   -- All capacities after it, and that of the kind before it.
-  pub noted-total : (n : ℕ) → capacities (noted_specs i n (view_machine m).specs) + (get_or m.specs i spare).capacity
+  pub noted_total : (n : ℕ) → capacities (noted_specs i n (view_machine m).specs) + (get_or m.specs i spare).capacity
       ≡ capacities (view_machine m).specs + max 1 n
-  noted-total n = omega (arith, noted-sum n (view_machine m).specs (view_spec spare) there, same-capacity)
+  noted_total n = omega (arith, noted-sum n (view_machine m).specs (view_spec spare) there, same-capacity)
 
 abbrev pub with-kind : Machine → ℕ → Spec → Machine
 with-kind m i k =
@@ -79,21 +113,21 @@ with-kind m i k =
     }
 
 -- A change that is not refused.
-module _ {m : Machine} (ok : MachineOk m) (i n : ℕ) (e : capacity_refusal i n (view_machine m).specs ≡ none) where
+module _ {m : Machine} (ok : MachineOk m) (i n : ℕ) (e : capacity_refusal i n (view_machine m).specs ≡ None) where
   fits : Changes i n (view_machine m).specs
   fits = changes i n (view_machine m).specs e
 
-  pub change-there : i < m.specs_len
-  change-there = omega (arith, fits.there, specs-length ok)
+  pub change_there : i < m.specs_len
+  change_there = omega (arith, fits.there, specs-length ok)
 
-  pub change-most : max 1 n ≤ 64
-  change-most = omega (arith, noted-least n (view_machine m).specs (view_spec spare) fits.there, fits.units)
+  pub change_most : max 1 n ≤ 64
+  change_most = omega (arith, noted-least n (view_machine m).specs (view_spec spare) fits.there, fits.units)
 
   pub noted-means : {x : Spec} → Means view_spec SpecOk x (with_capacity n (view_spec (get_or m.specs i spare)))
       → Means view_machine MachineOk (with-kind m i x) (noted i n (view_machine m))
   unfolding view_machine view_specs noted noted_specs
   noted-means {x} k =
-      let specs = view-modify view_spec m.specs (with_capacity n) spare (room ok) change-there k.is in
+      let specs = view-modify view_spec m.specs (with_capacity n) spare (room ok) change_there k.is in
       record {
         is = ap (λ ks. with_specs ks (view_machine m)) specs;
         ok = record {

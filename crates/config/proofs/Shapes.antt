@@ -1,20 +1,27 @@
 -- A declared machine: its counts, and its arrays as far as they are counted.
-use Prim.Native.Nat.{ℕ, ◌-◌, ◌≤◌, ◌<◌, min, max}
+use Prim.Native.Nat.{ℕ, ◌+◌, ◌-◌, ◌≤◌, ◌<◌, min, max}
 use mathlib.Core.Path.{◌≡◌, refl, sym, ap, ◌∙◌}
 use mathlib.Core.Logic.{⊎_elim}
+use mathlib.Core.Bool.{Bool, true, false, cond, ◌||◌}
+use Rattle.std.specs.Prelude.{Option, None, Some, unwrap_or, fold}
+use Rattle.std.specs.Option.{option_or}
+use Rattle.std.specs.List.{position_from, list_any}
+use native.Mathlib.Numerals.{add-one}
+use Rattle.laws.specs.Numbers.{max64}
 use mathlib.Core.List.{List, [], ◌∷◌, ◌++◌, map, map-map}
+use native.Mathlib.Nat.{zero-add}
 use native.Mathlib.Omega.{arith}
 use lib.ListN.{length, get_or, take, drop, replicate, length-map}
 use lib.Seq.{take_at}
 use Rattle.laws.specs.Means.{Means}
 use Rattle.laws.specs.Optional.{value_or}
-use Rattle.laws.specs.Lists.{any, find_at}
+use Rattle.laws.specs.Lists.{find_at}
 use Rattle.laws.proofs.Tests.{lt-or-ge}
 use Rattle.laws.proofs.Slices.{Seen, view-next, view-length, take-map, All-seen}
 use Rattle.capability.specs.Numbers.{role_number}
 use Rattle.capability.specs.declared.PipelineStageRole.TheVariants.{Fetch, Other}
 use Rattle.capability.specs.declared.PipelineInstructionClass.TheVariants.{Alu}
-use Rattle.model.specs.Config.{UnitSpec, at_least_one, generic_unit, specs_or_generic, is_execute, execute_stage, queue_depth, machine_of}
+use Rattle.model.specs.Config.{UnitSpec, capacities, at_least_one, generic_unit, specs_or_generic, is_execute, execute_stage, queue_depth, machine_of}
 use Rattle.model.specs.Calls.{bad_spec_name}
 use Rattle.config.specs.declared.UnitSpec.{UnitSpec as DeclaredUnit}
 use Rattle.config.specs.declared.StageSpec.{StageSpec}
@@ -25,7 +32,7 @@ use Rattle.config.specs.View.{view_unit_spec, view_stage, view_shape, view_spec,
 use Rattle.config.specs.Checks.{Accepted}
 use Rattle.config.specs.Kept.{KindOk, SpecsOk, MachineOk}
 use Rattle.config.proofs.Spare.{padded-length, padded-within, any-padded, find-padded}
-use Rattle.config.proofs.Units.{kinds-ok, generic-ok, specs-some, specs-none}
+use Rattle.config.proofs.Units.{declared_sum, kinds-ok, generic-ok, specs-some, specs-none}
 use Rattle.config.proofs.Checks.{small_of}
 use Rattle.config.proofs.Bounds.{depth_least, depth_most}
 
@@ -40,35 +47,63 @@ spare-stage = record { role = Fetch }
 abbrev pub kept-unit : DeclaredUnit → UnitSpec
 kept-unit u = at_least_one (view_unit_spec u)
 
-module _ (d : PipelineShape) where
-  pub stages-count : length (view_shape d).stages ≡ d.stages_len
-  unfolding view_shape
-  stages-count = padded-length _ _ _
+-- The library's word for a default.
+pub given : {A : Type 0} (o : Option A) (d : A) → unwrap_or o d ≡ value_or d o
+given None d = refl
+given (Some a) d = refl
 
-  pub units-count : length (view_shape d).units ≡ d.units_len
+executing : (i : ℕ) (ss : List StageSpec)
+    → position_from (λ (s : StageSpec). is_execute 0 (view_stage s)) i ss ≡ find_at is_execute i (map view_stage ss)
+unfolding find_at is_execute
+executing i [] = refl
+executing i (s ∷ ss) = rw (executing (i + 1) ss, add-one) (choice (is_execute 0 (view_stage s)) _)
+  where
+    choice : (b : Bool) (o : Option ℕ) → cond b (Some i) o ≡ option_or (cond b (Some i) None) o
+    choice true o = refl
+    choice false o = refl
+
+module _ (d : PipelineShape) where
+  pub stages_count : length (view_shape d).stages ≡ d.stages_len
   unfolding view_shape
-  units-count = padded-length _ _ _
+  stages_count = padded-length _ _ _
+
+  pub units_count : length (view_shape d).units ≡ d.units_len
+  unfolding view_shape
+  units_count = padded-length _ _ _
 
   pub units_few : Accepted (view_shape d) → d.units_len ≤ 16
-  units_few ok = omega (arith, (small_of (view_shape d) ok.small).kinds, units-count)
+  units_few ok = omega (arith, (small_of (view_shape d) ok.small).kinds, units_count)
 
   -- The search through the stages that stand in the array.
-  pub stage-found : {k : ℕ} → length d.stages ≡ 16 → k ≡ min d.stages_len 16
-      → value_or (d.stages_len - 1) (find_at is_execute 0 (take k (map view_stage d.stages))) ≡ execute_stage (view_shape d).stages
+  pub stage_found : length d.stages ≡ 16
+      → unwrap_or (position_from (λ (s : StageSpec). is_execute 0 (view_stage s)) 0 (take (min d.stages_len 16) d.stages)) (d.stages_len - 1)
+      ≡ execute_stage (view_shape d).stages
   unfolding execute_stage is_execute role_number view_shape
-  stage-found all e =
-      ap (value_or (d.stages_len - 1))
-      (sym (find-padded Other d.stages_len _ (e ∙ ap (min d.stages_len) (sym (length-map d.stages view_stage ∙ all))) is_execute (λ i. refl)))
-      ∙ ap (λ n. value_or (n - 1) (find_at is_execute 0 (view_shape d).stages)) (sym stages-count)
+  stage_found all =
+      let count : min d.stages_len 16 ≡ min d.stages_len (length (map view_stage d.stages)) =
+      ap (min d.stages_len) (sym (length-map d.stages view_stage ∙ all)) in
+      given (position_from (λ (s : StageSpec). is_execute 0 (view_stage s)) 0 (take (min d.stages_len 16) d.stages)) (d.stages_len - 1)
+      ∙ ap (value_or (d.stages_len - 1))
+      (executing 0 (take (min d.stages_len 16) d.stages)
+      ∙ ap (find_at is_execute 0) (sym (take-map view_stage (min d.stages_len 16) d.stages))
+      ∙ sym (find-padded Other d.stages_len _ count is_execute (λ i. refl)))
+      ∙ ap (λ n. value_or (n - 1) (find_at is_execute 0 (view_shape d).stages)) (sym stages_count)
+
+any-map : {A B : Type 0} (p : B → Bool) (f : A → B) (l : List A) → list_any p (map f l) ≡ list_any (λ (x : A). p (f x)) l
+any-map p f [] = refl
+any-map p f (x ∷ l) = ap (λ b. p (f x) || b) (any-map p f l)
 
 module _ (d : PipelineShape) (all : length d.units ≡ 16) where
   size : length (map view_unit_spec d.units) ≡ 16
   size = length-map d.units view_unit_spec ∙ all
 
-  pub names-first : {k : ℕ} → k ≡ min d.units_len 16
-      → any bad_spec_name (take k (map view_unit_spec d.units)) ≡ any bad_spec_name (view_shape d).units
+  pub names_first : list_any (λ (u : DeclaredUnit). bad_spec_name (view_unit_spec u)) (take (min d.units_len 16) d.units)
+      ≡ list_any bad_spec_name (view_shape d).units
   unfolding view_shape
-  names-first e = sym (any-padded generic_unit d.units_len _ (e ∙ ap (min d.units_len) (sym size)) bad_spec_name generic-ok.named)
+  names_first =
+      sym (any-map bad_spec_name view_unit_spec (take (min d.units_len 16) d.units))
+      ∙ ap (list_any bad_spec_name) (sym (take-map view_unit_spec (min d.units_len 16) d.units))
+      ∙ sym (any-padded generic_unit d.units_len _ (ap (min d.units_len) (sym size)) bad_spec_name generic-ok.named)
 
   module _ (few : d.units_len ≤ 16) where
     units-within : (view_shape d).units ≡ take d.units_len (map view_unit_spec d.units)
@@ -80,6 +115,14 @@ module _ (d : PipelineShape) (all : length d.units ≡ 16) where
     units-kept =
         ap (map at_least_one) units-within ∙ sym (take-map at_least_one d.units_len _)
         ∙ ap (take d.units_len) (map-map at_least_one view_unit_spec d.units)
+
+    -- The sum of the units of all kinds, which stops at 2^64 - 1.
+    pub units_sum : fold (λ (a : ℕ) (u : DeclaredUnit). min (a + max u.capacity 1) max64) 0 (take d.units_len d.units)
+        ≡ min (capacities (map at_least_one (view_shape d).units)) max64
+    units_sum =
+        declared_sum (take d.units_len d.units) 0 (omega arith)
+        ∙ ap (λ n. min n max64) (zero-add (capacities (map kept-unit (take d.units_len d.units))))
+        ∙ ap (λ ks. min (capacities ks) max64) (sym (take-map kept-unit d.units_len d.units) ∙ sym units-kept)
 
     unit-seen : {i : ℕ} → i < d.units_len → Seen (view_shape d).units d.units_len i (view_unit_spec (get_or d.units i spare-unit))
     unit-seen h = rw units-within (view-next view_unit_spec d.units spare-unit (omega arith) h)
@@ -105,7 +148,7 @@ specs-kept d k l all few g e = ⊎_elim some-kinds no-kinds (lt-or-ge 0 d.units_
         ap (λ j. take j (map view_spec l)) m ∙ ap (take n) e
         ∙ take_at (take n (map kept-unit d.units)) _ n (view-length kept-unit d.units (omega arith))
         ∙ sym (units-kept d all few)
-        ∙ sym (specs-some (view_shape d).units (omega (arith, units-count d)))
+        ∙ sym (specs-some (view_shape d).units (omega (arith, units_count d)))
 
     no-kinds : n ≤ 0 → take (max 1 n) (map view_spec l) ≡ specs_or_generic (view_shape d).units
     no-kinds h =
@@ -113,7 +156,7 @@ specs-kept d k l all few g e = ⊎_elim some-kinds no-kinds (lt-or-ge 0 d.units_
         ap (take (max 1 n)) e
         ∙ ap (λ j. take (max 1 j) (take j (map kept-unit d.units) ++ drop j (map view_spec (replicate 16 k)))) z
         ∙ ap (λ x. x ∷ []) g
-        ∙ sym (specs-none (view_shape d).units (units-count d ∙ z))
+        ∙ sym (specs-none (view_shape d).units (units_count d ∙ z))
 
 -- ── The machine that is kept ────────────────────────────────────────────────
 

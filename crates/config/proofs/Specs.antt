@@ -11,11 +11,12 @@ use Rattle.model.specs.Config.{unit_spec, at_least_one, with_capacity, handles}
 use Rattle.model.specs.Calls.{bad_spec_name}
 use Rattle.config.specs.declared.UnitSpec.{UnitSpec}
 use Rattle.config.specs.declared.Spec.{Spec}
-use Rattle.config.specs.View.{flagged, view_kind_name, view_unit_spec, view_spec}
+use Rattle.op.specs.Chars.{view_text}
+use Rattle.config.specs.View.{flagged, view_unit_spec, view_spec}
 use Rattle.config.specs.Kept.{KindOk, SpecOk}
 use Rattle.config.proofs.Classes.{flag-set, takes-flagged, empty-is}
 
-module _ (u : UnitSpec) (ok : KindOk (view_unit_spec u)) (bytes : length u.name.bytes ≡ 8) {n : ℕ} (e : n ≡ max 1 u.capacity) where
+module _ (u : UnitSpec) (ok : KindOk (view_unit_spec u)) {n : ℕ} (e : n ≡ max 1 u.capacity) where
   abbrev made : Bool → List Bool → Spec
   made b flags = record { name = u.name; every = b; classes = flags; latency_class = u.latency_class; capacity = n }
 
@@ -28,9 +29,8 @@ module _ (u : UnitSpec) (ok : KindOk (view_unit_spec u)) (bytes : length u.name.
   unfolding view_unit_spec view_spec at_least_one handles is_empty
   kept-every h =
       record {
-        is = ap₂ (λ cs k. unit_spec (view_kind_name u.name) cs u.latency_class k) (sym (empty-is (flagged u.classes) h)) e;
+        is = ap₂ (λ cs k. unit_spec (view_text u.name) cs u.latency_class k) (sym (empty-is (flagged u.classes) h)) e;
         ok = record {
-          bytes = bytes;
           flags = refl;
           takes = flag-set;
           kind = within true (replicate 10 true);
@@ -43,9 +43,8 @@ module _ (u : UnitSpec) (ok : KindOk (view_unit_spec u)) (bytes : length u.name.
   unfolding view_unit_spec view_spec at_least_one
   kept-flagged ten h =
       record {
-        is = ap (unit_spec (view_kind_name u.name) (flagged u.classes) u.latency_class) e;
+        is = ap (unit_spec (view_text u.name) (flagged u.classes) u.latency_class) e;
         ok = record {
-          bytes = bytes;
           flags = ten;
           takes = λ c. sym (takes-flagged u.classes (view_spec (made false u.classes)) refl c h);
           kind = within false u.classes;
@@ -62,7 +61,6 @@ changed k n ok e h =
     record {
       is = ap (unit_spec (view_spec k).name (view_spec k).classes k.latency_class) e;
       ok = record {
-        bytes = ok.bytes;
         flags = ok.flags;
         takes = ok.takes;
         kind = record { named = ok.kind.named; most = omega (arith, e) };

@@ -1,26 +1,19 @@
 -- What a check answers, and what it leaves to hold.
-use Rattle.std.specs.Prelude.{ℕ, ◌≡◌, false, List, [], ◌∷◌, ltb}
-use Rattle.std.proofs.Math.Option.{Option, none, some}
+use Rattle.std.specs.Prelude.{ℕ, ◌≡◌, false, List, [], ◌∷◌, ltb, Option, None, slice_get}
 use Rattle.laws.specs.Optional.{is_none}
-use Rattle.laws.specs.Lists.{nth, any, modify}
+use Rattle.laws.specs.Lists.{modify}
+use Rattle.std.specs.List.{list_any}
 use Rattle.model.specs.Config.{timing, UnitSpec, with_capacity, capacities, PipelineShape, pipeline_shape, Machine, with_specs}
 use Rattle.model.specs.Calls.{Check, first_of, too_big, bad_spec_name, extra_overflows}
-use Rattle.config.specs.declared.Checked.{Checked}
-use Rattle.config.specs.declared.Checked.TheVariants.{Fine, Refused}
 
 -- A machine that declares nothing.
 abbrev pub nothing_declared : PipelineShape
-nothing_declared = pipeline_shape [] none (timing 0 0 0 0 0 0 0) [] 0
-
--- The number of a refusal.
-unfoldable pub checked_number : Checked → Option ℕ
-checked_number Fine = none
-checked_number (Refused n) = some n
+nothing_declared = pipeline_shape [] None (timing 0 0 0 0 0 0 0) [] 0
 
 -- What making does not refuse, the lent memory aside.
 pub record Accepted (d : PipelineShape) : Type 0 where
   pub small : too_big d ≡ false
-  pub named : any bad_spec_name d.units ≡ false
+  pub named : list_any bad_spec_name d.units ≡ false
   pub timed : extra_overflows d.times ≡ false
 
 -- ── A capacity change ───────────────────────────────────────────────────────
@@ -33,12 +26,12 @@ noted kind n m = with_specs (noted_specs kind n m.specs) m
 
 -- Refusals 12 and 1.
 unfoldable pub capacity_checks : ℕ → ℕ → List UnitSpec → List Check
-capacity_checks kind n ks = (12, is_none (nth ks kind)) ∷ (1, ltb 64 (capacities (noted_specs kind n ks))) ∷ []
+capacity_checks kind n ks = (12, is_none (slice_get ks kind)) ∷ (1, ltb 64 (capacities (noted_specs kind n ks))) ∷ []
 
 unfoldable pub capacity_refusal : ℕ → ℕ → List UnitSpec → Option ℕ
 capacity_refusal kind n ks = first_of (capacity_checks kind n ks)
 
 -- All of these unfold where a line says `unfolding checks`.
 unfoldable pub checks : Unit {0}
-unfolding checked_number noted_specs noted capacity_checks capacity_refusal
+unfolding noted_specs noted capacity_checks capacity_refusal
 checks = tt

@@ -1,42 +1,20 @@
 // What a machine declares (pipeline/config.rs), what making refuses of it, and what the engine keeps.
 #![tactic(auto)]
 
-ghost use Rattle.std.specs.Prelude.{◌≡◌, map, ◌+◌, ◌-◌, ◌≤◌, ◌<◌, min, max};
-ghost use Rattle.std.proofs.Math.Option.{none};
+ghost use Rattle.std.specs.Prelude.{◌≡◌, ◌||◌, not, map, length, eqb, ◌-◌, ◌≤◌, ◌<◌, min, max, ◌^◌, sum_by};
 ghost use Rattle.laws.specs.Means.{Means};
-ghost use Rattle.laws.specs.Lists.{any, is_empty};
-ghost use Rattle.model.specs.Config.{
-  timing,
-  default_timing,
-  extra_cycles,
-  latency,
-  handles,
-  generic_unit,
-  at_least_one,
-  specs_or_generic,
-  capacities,
-  spec_index,
-  is_execute,
-  execute_stage,
-  queue_depth,
-  machine_of,
-};
-ghost use Rattle.model.specs.Calls.{too_big, bad_spec_name, extra_overflows, make_refusal};
-ghost use Rattle.config.specs.View.{
-  view_timing,
-  flagged,
-  view_unit_spec,
-  view_stage,
-  view_shape,
-  view_spec,
-  view_specs,
-  view_machine,
-};
-ghost use Rattle.config.specs.Checks.{nothing_declared, checked_number, Accepted, noted_specs, noted, capacity_refusal};
+ghost use Rattle.laws.specs.Numbers.{max64};
+ghost use Rattle.std.specs.List.{list_any, list_all, position_from};
+ghost use Rattle.model.specs.Config.{timing, default_timing, extra_cycles, latency, handles, generic_unit, at_least_one, specs_or_generic, capacities, spec_index, is_execute, execute_stage, queue_depth, machine_of};
+ghost use Rattle.model.specs.Calls.{too_big, bad_text, bad_spec_name, extra_overflows, make_refusal};
+ghost use Rattle.config.specs.View.{view_timing, flag, view_unit_spec, view_stage, view_shape, view_spec, view_specs, view_machine};
+ghost use Rattle.op.specs.Chars.{view_text};
+ghost use Rattle.capability.specs.Refusals.{refusal_of};
+ghost use Rattle.config.specs.Checks.{nothing_declared, Accepted, noted_specs, noted, capacity_refusal};
 ghost use Rattle.config.specs.Kept.{KindOk, SpecOk, SpecsOk, MachineOk};
 
-use capability::{PipelineInstructionClass, PipelineStageRole};
-use op::MaybeNumber;
+use capability::{PipelineInstructionClass, PipelineStageRole, Refusal};
+use op::Chars;
 
 // Extra execution cycles of each class that has any, over the one that every operation takes.
 #[derive(Clone, Copy)]
@@ -51,11 +29,7 @@ pub struct PipelineTiming {
 }
 
 // A kind's name: 1 to 8 bytes, each 0x20 to 0x7E. Others are refused.
-#[derive(Clone, Copy)]
-pub struct KindName {
-    pub bytes: [u8; 8],
-    pub len: u8,
-}
+pub type KindName = Chars<8>;
 
 // A kind of functional unit as declared. `classes` has a flag for each class; with none set it takes every class.
 #[derive(Clone, Copy)]
@@ -80,19 +54,12 @@ pub struct PipelineShape {
     pub stages: [StageSpec; 16],
     pub stages_len: usize,
     // The fixed length of an operation, where there is one.
-    pub instruction_bytes: MaybeNumber,
+    pub instruction_bytes: Option<u64>,
     pub timing: PipelineTiming,
     pub units: [UnitSpec; 16],
     pub units_len: usize,
     // Rows kept; 0 reads as 1.
     pub history: usize,
-}
-
-// What a check answers: nothing, or the number of a refusal.
-#[derive(Drop)]
-pub enum Checked {
-    Fine,
-    Refused(u8),
 }
 
 // A kind as the engine keeps it: `classes` says whether it takes a class.
@@ -114,60 +81,51 @@ pub struct Machine {
     pub timing: PipelineTiming,
     pub depth: usize,
     pub history: usize,
-    pub instruction_bytes: MaybeNumber,
-}
-
-fn at_least_one(n: usize) -> usize
-    ensures { result ≡ max 1 n }
-{
-    if n == 0 { 1 } else { n }
-}
-
-fn one_less(n: usize) -> usize
-    ensures { result ≡ n - 1 }
-{
-    if n == 0 { 0 } else { n - 1 }
-}
-
-// A capacity of 0 reads as 1.
-fn instances_of(capacity: u64) -> u64
-    ensures { result ≡ max 1 capacity }
-{
-    if capacity == 0 { 1 } else { capacity }
-}
-
-// A sum that stops at 65.
-fn capped(sum: u64, more: u64) -> u64
-    ensures { result ≡ min (sum + more) 65 }
-{
-    if 65 <= more {
-        65
-    } else if 65 - more <= sum {
-        65
-    } else {
-        sum + more
-    }
+    pub instruction_bytes: Option<u64>,
 }
 
 // Is no flag set?
-fn lists_none(flags: [bool; 10]) -> bool
-    ensures { result ≡ is_empty (flagged flags) }
+fn lists_none(flags: &[bool; 10]) -> bool
+    ensures { result ≡ list_all not flags.now }
 {
-    let mut i: usize = 0;
-    while i < 10 {
-        if flags[i] {
-            return false;
-        }
-        i += 1;
-    }
-    true
+    flags.iter().all(|flag| !*flag)
 }
 
-impl PipelineTiming {
-    pub fn default() -> PipelineTiming
-        ensures { view_timing result ≡ default_timing }
-    {
-        PipelineTiming {
+// Is a kind's name empty, or a bad text?
+#[tactic(auto, using(crate::proofs::Units::name_length))]
+fn is_bad_name(name: &KindName) -> bool
+    ensures { result ≡ (eqb (length (view_text name.now)) 0 || bad_text 8 (view_text name.now)) }
+{
+    name.len == 0 || name.is_bad()
+}
+
+// The first stage whose role is Execute.
+fn first_executing(stages: &[StageSpec]) -> Option<usize>
+    ensures { result ≡ position_from (λ s. is_execute 0 (view_stage s)) 0 stages.now }
+{
+    stages.iter().position(|stage| stage.executes())
+}
+
+// Has one of them a bad name?
+fn any_bad_name(units: &[UnitSpec]) -> bool
+    ensures { result ≡ list_any (λ u. bad_spec_name (view_unit_spec u)) units.now }
+{
+    units.iter().any(|unit| unit.is_bad_name())
+}
+
+// The first kind that takes a class.
+fn first_taking(kinds: &[Spec], class: PipelineInstructionClass) -> Option<usize>
+    ensures { result ≡ position_from (λ k. flag k.classes class) 0 kinds.now }
+{
+    kinds.iter().position(|kind| kind.takes(class))
+}
+
+// The presets of the Rust.
+impl Default for PipelineTiming {
+    ghost is_default = { λ t. view_timing t ≡ default_timing };
+
+    fn default() -> Self {
+        Self {
             alu: 0,
             mul: 2,
             div: 19,
@@ -177,7 +135,9 @@ impl PipelineTiming {
             fp: 4,
         }
     }
+}
 
+impl PipelineTiming {
     // Every class takes one cycle.
     pub fn single_cycle() -> PipelineTiming
         ensures { view_timing result ≡ timing 0 0 0 0 0 0 0 }
@@ -194,8 +154,9 @@ impl PipelineTiming {
     }
 
     // Cycles that a class spends in execute beyond the first.
-    pub fn extra_cycles(self, class: PipelineInstructionClass) -> u64
-        ensures { result ≡ extra_cycles (view_timing self) class }
+    #[tactic(auto, unfolding(model::specs::Config::extra_cycles))]
+    pub fn extra_cycles(&self, class: PipelineInstructionClass) -> u64
+        ensures { result ≡ extra_cycles (view_timing self.now) class }
     {
         match class {
             PipelineInstructionClass::Alu => self.alu,
@@ -203,25 +164,26 @@ impl PipelineTiming {
             PipelineInstructionClass::Divide => self.div,
             PipelineInstructionClass::Load => self.load,
             PipelineInstructionClass::Store => self.store,
-            PipelineInstructionClass::Branch => 0,
-            PipelineInstructionClass::Jump => 0,
             PipelineInstructionClass::System => self.system,
             PipelineInstructionClass::FloatingPoint => self.fp,
-            PipelineInstructionClass::Unknown => 0,
+            PipelineInstructionClass::Branch
+            | PipelineInstructionClass::Jump
+            | PipelineInstructionClass::Unknown => 0,
         }
     }
 
     // Cycles that a class holds its unit: 1 to 255.
-    pub fn latency(self, class: PipelineInstructionClass) -> u8
-        ensures { result ≡ latency (view_timing self) class }
+    #[tactic(auto, unfolding(model::specs::Config::latency))]
+    pub fn latency(&self, class: PipelineInstructionClass) -> u8
+        ensures { result ≡ latency (view_timing self.now) class }
     {
-        let extra = self.extra_cycles(class);
-        if extra < 255 { (extra + 1) as u8 } else { 255 }
+        self.extra_cycles(class).saturating_add(1).min(255) as u8
     }
 
     // Refusal 3: an extra is 2^64 - 1.
-    pub fn overflows(self) -> bool
-        ensures { result ≡ extra_overflows (view_timing self) }
+    #[tactic(auto, unfolding(model::specs::Calls::extra_overflows))]
+    pub fn overflows(&self) -> bool
+        ensures { result ≡ extra_overflows (view_timing self.now) }
     {
         let extras = [
             self.alu,
@@ -232,14 +194,7 @@ impl PipelineTiming {
             self.system,
             self.fp,
         ];
-        let mut i: usize = 0;
-        while i < 7 {
-            if extras[i] == u64::MAX {
-                return true;
-            }
-            i += 1;
-        }
-        false
+        extras.contains(&u64::MAX)
     }
 }
 
@@ -248,12 +203,8 @@ impl UnitSpec {
     pub fn generic() -> UnitSpec
         ensures { view_unit_spec result ≡ generic_unit }
     {
-        let name = KindName {
-            bytes: [0x45, 0x58, 0, 0, 0, 0, 0, 0],
-            len: 2,
-        };
         UnitSpec {
-            name,
+            name: KindName::from_slice(b"EX"),
             classes: [false; 10],
             latency_class: PipelineInstructionClass::Alu,
             capacity: 1,
@@ -261,64 +212,43 @@ impl UnitSpec {
     }
 
     // Does it take the class?
-    pub fn handles(self, class: PipelineInstructionClass) -> bool
-        ensures { result ≡ handles class (view_unit_spec self) }
+    #[tactic(auto, using(crate::proofs::Classes::class_below, crate::proofs::Classes::none_listed, crate::proofs::Classes::takes_each, crate::proofs::Classes::takes_flagged), unfolding(crate::specs::View::flag))]
+    pub fn handles(&self, class: PipelineInstructionClass) -> bool
+        ensures { result ≡ handles class (view_unit_spec self.now) }
     {
-        let flags = self.classes;
-        if lists_none(flags) {
-            return true;
-        }
-        let c = class.as_usize();
-        flags[c]
+        lists_none(&self.classes) || self.classes[class.as_usize()]
     }
 
     // Refusal 2, of its name.
-    pub fn is_bad_name(self) -> bool
-        ensures { result ≡ bad_spec_name (view_unit_spec self) }
+    #[tactic(auto, unfolding(model::specs::Calls::bad_spec_name, crate::specs::View::view_unit_spec))]
+    pub fn is_bad_name(&self) -> bool
+        ensures { result ≡ bad_spec_name (view_unit_spec self.now) }
     {
-        let name = self.name;
-        let bytes = name.bytes;
-        if name.len == 0 {
-            return true;
-        }
-        op::slices::is_bad_text(&bytes, name.len)
+        is_bad_name(&self.name)
     }
 
     // What the engine keeps of it.
-    fn kept(self) -> Spec
-        requires { KindOk (view_unit_spec self) }
-        ensures { Means view_spec SpecOk result (at_least_one (view_unit_spec self)) }
+    fn kept(&self) -> Spec
+        requires { KindOk (view_unit_spec self.now) }
+        ensures { Means view_spec SpecOk result (at_least_one (view_unit_spec self.now)) }
     {
-        let name = self.name;
-        let flags = self.classes;
-        let class = self.latency_class;
-        let capacity = instances_of(self.capacity) as u8;
-        if lists_none(flags) {
-            Spec {
-                name,
-                every: true,
-                classes: [true; 10],
-                latency_class: class,
-                capacity,
-            }
-        } else {
-            Spec {
-                name,
-                every: false,
-                classes: flags,
-                latency_class: class,
-                capacity,
-            }
+        let every = lists_none(&self.classes);
+        Spec {
+            name: self.name,
+            every,
+            classes: if every { [true; 10] } else { self.classes },
+            latency_class: self.latency_class,
+            capacity: self.capacity.max(1) as u8,
         }
     }
 }
 
 impl StageSpec {
-    fn executes(self) -> bool
-        ensures { result ≡ is_execute 0 (view_stage self) }
+    #[tactic(auto, unfolding(model::specs::Config::is_execute, crate::specs::View::view_stage, capability::specs::Numbers::role_number))]
+    fn executes(&self) -> bool
+        ensures { result ≡ is_execute 0 (view_stage self.now) }
     {
-        let role = self.role;
-        role.number() == 3
+        self.role == PipelineStageRole::Execute
     }
 }
 
@@ -327,166 +257,137 @@ impl PipelineShape {
     pub fn empty() -> PipelineShape
         ensures { view_shape result ≡ nothing_declared }
     {
-        let stage = StageSpec {
-            role: PipelineStageRole::Other,
-        };
-        let unit = UnitSpec::generic();
-        let timing = PipelineTiming::single_cycle();
         PipelineShape {
-            stages: [stage; 16],
+            stages: [StageSpec {
+                role: PipelineStageRole::Other,
+            }; 16],
             stages_len: 0,
-            instruction_bytes: MaybeNumber::Nothing,
-            timing,
-            units: [unit; 16],
+            instruction_bytes: None,
+            timing: PipelineTiming::single_cycle(),
+            units: [UnitSpec::generic(); 16],
             units_len: 0,
             history: 0,
         }
     }
 
     // The first Execute stage, or else the last stage.
-    pub fn execute_stage(self) -> usize
-        ensures { result ≡ execute_stage (view_shape self).stages }
+    #[tactic(auto, using(crate::proofs::Shapes::stage_found))]
+    pub fn execute_stage(&self) -> usize
+        ensures { result ≡ execute_stage (view_shape self.now).stages }
     {
-        let n = op::slices::least(self.stages_len, 16);
-        let mut i: usize = 0;
-        while i < n {
-            let s = self.stages[i];
-            if s.executes() {
-                return i;
-            }
-            i += 1;
-        }
-        one_less(self.stages_len)
+        first_executing(&self.stages[..self.stages_len.min(16)]).unwrap_or(
+            self.stages_len.saturating_sub(1),
+        )
     }
 
     // How many operations the queue before issue holds.
-    pub fn queue_depth(self) -> usize
-        ensures { result ≡ queue_depth (view_shape self).stages }
+    #[tactic(auto, unfolding(model::specs::Config::queue_depth))]
+    pub fn queue_depth(&self) -> usize
+        ensures { result ≡ queue_depth (view_shape self.now).stages }
     {
-        at_least_one(self.execute_stage())
+        self.execute_stage().max(1)
     }
 
-    // The units of all kinds, stopping at 65.
-    fn units_total(self) -> u64
-        requires { self.units_len ≤ 16 }
-        ensures { result ≡ min (capacities (map at_least_one (view_shape self).units)) 65 }
+    // The units of all kinds, or 2^64 - 1 where they are past that.
+    #[tactic(auto, using(crate::proofs::Shapes::units_sum))]
+    fn units_total(&self) -> u64
+        requires { self.now.units_len ≤ 16 }
+        ensures { result ≡ min (capacities (map at_least_one (view_shape self.now).units)) max64 }
     {
-        let n = self.units_len;
-        let mut sum: u64 = 0;
-        let mut i: usize = 0;
-        while i < n {
-            let u = self.units[i];
-            sum = capped(sum, instances_of(u.capacity));
-            i += 1;
-        }
-        sum
+        self.units[..self.units_len].iter().fold(
+            0,
+            |sum: u64, unit| sum.saturating_add(unit.capacity.max(1)),
+        )
     }
 
     // Refusal 1.
-    pub fn too_big(self) -> bool
-        ensures { result ≡ too_big (view_shape self) }
+    #[tactic(auto, using(crate::proofs::Shapes::stages_count, crate::proofs::Shapes::units_count, crate::proofs::Units::over_64), unfolding(model::specs::Calls::too_big, crate::specs::View::view_shape))]
+    pub fn too_big(&self) -> bool
+        ensures { result ≡ too_big (view_shape self.now) }
     {
-        if 16 < self.units_len {
-            return true;
-        }
-        if 64 < self.units_total() {
-            return true;
-        }
-        if 16 < self.stages_len {
-            return true;
-        }
-        256 < self.history
+        16 < self.units_len || 64 < self.units_total() || 16 < self.stages_len || 256 < self.history
     }
 
     // Refusal 2.
-    pub fn bad_names(self) -> bool
-        ensures { result ≡ any bad_spec_name (view_shape self).units }
+    #[tactic(auto, using(crate::proofs::Shapes::names_first))]
+    pub fn bad_names(&self) -> bool
+        ensures { result ≡ list_any bad_spec_name (view_shape self.now).units }
     {
-        let n = op::slices::least(self.units_len, 16);
-        let mut i: usize = 0;
-        while i < n {
-            let u = self.units[i];
-            if u.is_bad_name() {
-                return true;
-            }
-            i += 1;
-        }
-        false
+        any_bad_name(&self.units[..self.units_len.min(16)])
     }
 
     // Making's refusals in order, with `lent` bytes of cell memory: 1, 2, 3, 13.
-    pub fn checked(self, lent: usize) -> Checked
-        ensures { checked_number result ≡ make_refusal (view_shape self) lent }
+    #[tactic(auto, using(crate::proofs::Checks::small_of), unfolding(model::specs::Calls::make_refusal, model::specs::Calls::make_checks, model::specs::Calls::first_of, crate::specs::View::view_shape))]
+    pub fn checked(&self, lent: usize) -> Result<(), Refusal>
+        ensures { refusal_of result ≡ make_refusal (view_shape self.now) lent }
     {
-        let big = self.too_big();
-        let bad = self.bad_names();
-        let t = self.timing;
-        let over = t.overflows();
-        if big {
-            return Checked::Refused(1);
+        if self.too_big() {
+            return Err(Refusal::TooBig);
         }
-        if bad {
-            return Checked::Refused(2);
+        if self.bad_names() {
+            return Err(Refusal::BadText);
         }
-        if over {
-            return Checked::Refused(3);
+        if self.timing.overflows() {
+            return Err(Refusal::ExtraOverflows);
         }
-        if lent < at_least_one(self.history) * 200 {
-            return Checked::Refused(13);
+        if lent < self.history.max(1) * 200 {
+            return Err(Refusal::ShortMemory);
         }
-        Checked::Fine
+        Ok(())
     }
 
     // The kinds that the engine keeps; with none declared, the generic one.
-    fn kept_specs(self) -> [Spec; 16]
-        requires { Accepted (view_shape self) }
-        ensures { Means (view_specs (max 1 self.units_len)) SpecsOk result (specs_or_generic (view_shape self).units) }
+    fn kept_specs(&self) -> [Spec; 16]
+        requires { Accepted (view_shape self.now) }
+        ensures { Means (view_specs (max 1 self.now.units_len)) SpecsOk result (specs_or_generic (view_shape self.now).units) }
     {
-        let g = UnitSpec::generic();
-        let k = g.kept();
-        let mut specs = [k; 16];
-        let n = self.units_len;
-        let mut i: usize = 0;
-        while i < n {
-            let u = self.units[i];
-            let s = u.kept();
-            specs[i] = s;
-            i += 1;
+        let mut specs = [UnitSpec::generic().kept(); 16];
+        for i in 0..self.units_len {
+            specs[i] = self.units[i].kept();
         }
         specs
     }
 
     // What the engine keeps of a machine that was checked.
-    pub fn machine(self) -> Machine
-        requires { Accepted (view_shape self) }
-        ensures { Means view_machine MachineOk result (machine_of (view_shape self)) }
+    pub fn machine(&self) -> Machine
+        requires { Accepted (view_shape self.now) }
+        ensures { Means view_machine MachineOk result (machine_of (view_shape self.now)) }
     {
-        let specs = self.kept_specs();
-        let timing = self.timing;
-        let fixed = self.instruction_bytes;
-        let specs_len = at_least_one(self.units_len);
-        let depth = self.queue_depth();
-        let history = at_least_one(self.history);
         Machine {
-            specs,
-            specs_len,
-            timing,
-            depth,
-            history,
-            instruction_bytes: fixed,
+            specs: self.kept_specs(),
+            specs_len: self.units_len.max(1),
+            timing: self.timing,
+            depth: self.queue_depth(),
+            history: self.history.max(1),
+            instruction_bytes: self.instruction_bytes,
         }
     }
 }
 
 impl Spec {
-    // Does the kind take the class?
-    pub fn handles(self, class: PipelineInstructionClass) -> bool
-        requires { SpecOk self }
-        ensures { result ≡ handles class (view_spec self) }
+    // Does its flag of the class stand?
+    #[tactic(auto, using(crate::proofs::Classes::class_below), unfolding(crate::specs::View::flag))]
+    fn takes(&self, class: PipelineInstructionClass) -> bool
+        ensures { result ≡ flag self.now.classes class }
     {
-        let c = class.as_usize();
-        self.classes[c]
+        self.classes[class.as_usize()]
     }
+
+    // Does the kind take the class?
+    pub fn handles(&self, class: PipelineInstructionClass) -> bool
+        requires { SpecOk self.now }
+        ensures { result ≡ handles class (view_spec self.now) }
+    {
+        self.takes(class)
+    }
+}
+
+// The units of kinds in a row.
+fn total(kinds: &[Spec]) -> u64
+    requires { sum_by (λ k. k.capacity) kinds.now < 2 ^ 64 }
+    ensures { result ≡ sum_by (λ k. k.capacity) kinds.now }
+{
+    kinds.iter().map(|kind| kind.capacity as u64).sum()
 }
 
 impl Machine {
@@ -494,88 +395,68 @@ impl Machine {
     pub fn generic() -> Machine
         ensures { Means view_machine MachineOk result (machine_of nothing_declared) }
     {
-        let d = PipelineShape::empty();
-        d.machine()
+        PipelineShape::empty().machine()
     }
 
     // The first kind that takes the class, or else kind 0.
-    pub fn spec_index(self, class: PipelineInstructionClass) -> usize
-        requires { MachineOk self }
-        ensures { result ≡ spec_index (view_machine self).specs class }
+    pub fn spec_index(&self, class: PipelineInstructionClass) -> usize
+        requires { MachineOk self.now }
+        ensures { result ≡ spec_index (view_machine self.now).specs class }
     {
-        let n = self.specs_len;
-        let mut kind: usize = 0;
-        while kind < n {
-            let k = self.specs[kind];
-            if k.handles(class) {
-                return kind;
-            }
-            kind += 1;
-        }
-        0
+        first_taking(&self.specs[..self.specs_len], class).unwrap_or(0)
     }
 
-    pub fn latency(self, class: PipelineInstructionClass) -> u8
-        ensures { result ≡ latency (view_machine self).times class }
+    #[tactic(auto, unfolding(crate::specs::View::view_machine))]
+    pub fn latency(&self, class: PipelineInstructionClass) -> u8
+        ensures { result ≡ latency (view_machine self.now).times class }
     {
-        let t = self.timing;
-        t.latency(class)
+        self.timing.latency(class)
     }
 
     // The units of all kinds.
-    pub fn units_total(self) -> u64
-        requires { MachineOk self }
-        ensures { result ≡ capacities (view_machine self).specs }
+    #[tactic(auto, using(crate::proofs::Machines::kinds_sum))]
+    pub fn units_total(&self) -> u64
+        requires { MachineOk self.now }
+        ensures { result ≡ capacities (view_machine self.now).specs }
     {
-        let n = self.specs_len;
-        let mut sum: u64 = 0;
-        let mut i: usize = 0;
-        while i < n {
-            let k = self.specs[i];
-            sum = capped(sum, k.capacity as u64);
-            i += 1;
-        }
-        sum
+        total(&self.specs[..self.specs_len])
     }
 
-    // The units of all kinds after a capacity change, stopping at 65.
-    fn total_with(self, kind: usize, instances: u64) -> u64
-        requires machine_ok { MachineOk self }
-        requires kind_bound { kind < self.specs_len }
-        ensures { result ≡ min (capacities (noted_specs kind instances (view_machine self).specs)) 65 }
+    // The units of all kinds after a capacity change, or 2^64 - 1 where they are past that.
+    #[tactic(auto, using(crate::proofs::Machines::kind_most, crate::proofs::Machines::noted_total))]
+    fn total_with(&self, kind: usize, instances: u64) -> u64
+        requires machine_ok { MachineOk self.now }
+        requires kind_bound { kind < self.now.specs_len }
+        ensures { result ≡ min (capacities (noted_specs kind instances (view_machine self.now).specs)) max64 }
     {
-        let k = self.specs[kind];
-        let others = self.units_total() - k.capacity as u64;
-        capped(others, instances_of(instances))
+        let others = self.units_total() - self.specs[kind].capacity as u64;
+        others.saturating_add(instances.max(1))
     }
 
     // Refusals 12 and 1 of a capacity change, in that order.
-    pub fn capacity_refused(self, kind: usize, instances: u64) -> Checked
-        requires { MachineOk self }
-        ensures { checked_number result ≡ capacity_refusal kind instances (view_machine self).specs }
+    #[tactic(auto, using(crate::proofs::Checks::no_kind, crate::proofs::Checks::no_room, crate::proofs::Checks::has_room))]
+    pub fn capacity_refused(&self, kind: usize, instances: u64) -> Result<(), Refusal>
+        requires { MachineOk self.now }
+        ensures { refusal_of result ≡ capacity_refusal kind instances (view_machine self.now).specs }
     {
-        let n = self.specs_len;
-        if n <= kind {
-            return Checked::Refused(12);
+        if self.specs_len <= kind {
+            return Err(Refusal::NoSuchKind);
         }
         if 64 < self.total_with(kind, instances) {
-            Checked::Refused(1)
-        } else {
-            Checked::Fine
+            return Err(Refusal::TooBig);
         }
+        Ok(())
     }
 
     // The machine with another capacity of one kind.
-    pub fn noted(self, kind: usize, instances: u64) -> Machine
-        requires machine_ok { MachineOk self }
-        requires self_value { capacity_refusal kind instances (view_machine self).specs ≡ none }
-        ensures { Means view_machine MachineOk result (noted kind instances (view_machine self)) }
+    #[tactic(auto, using(crate::proofs::Machines::change_there, crate::proofs::Machines::change_most))]
+    pub fn noted(&self, kind: usize, instances: u64) -> Machine
+        requires machine_ok { MachineOk self.now }
+        requires self_value { capacity_refusal kind instances (view_machine self.now).specs ≡ None }
+        ensures { Means view_machine MachineOk result (noted kind instances (view_machine self.now)) }
     {
-        let mut m = self;
-        let mut k = self.specs[kind];
-        let n = instances_of(instances) as u8;
-        k.capacity = n;
-        m.specs[kind] = k;
-        m
+        let mut machine = *self;
+        machine.specs[kind].capacity = instances.max(1) as u8;
+        machine
     }
 }

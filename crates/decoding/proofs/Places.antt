@@ -1,7 +1,7 @@
 -- Places that are a size apart: the one that a walk has come to, and an array that a walk fills with what it reads there.
 use mathlib.Core.Path.{◌≡◌, refl, sym, ap, ap₂, ◌∙◌}
 use mathlib.Core.List.{List, [], ◌∷◌, map}
-use Prim.Native.Nat.{ℕ, zero, suc, ◌+◌, ◌*◌, ◌≤◌, ◌<◌}
+use Prim.Native.Nat.{ℕ, zero, suc, ◌+◌, ◌-◌, ◌*◌, ◌≤◌, ◌<◌}
 use native.Mathlib.Nat.{le_of_suc-le-suc, not-suc-le-zero, suc-mul, zero-mul}
 use native.Mathlib.Numerals.{add-one}
 use native.Mathlib.Omega.{arith}
@@ -61,6 +61,10 @@ module _ {B : Type 0} {f : List ℕ → ℕ → B} {size : ℕ} {l : List ℕ} {
         ∙ ap (map_at (λ j b. f l (at + j * size)) 0) (take_all n w₀ (omega arith))
         ∙ reads (f l) size at 0 w₀
         ∙ ap₂ (λ m p. map (f l) (places size m p)) q first
+
+-- What a slice by its two ends holds.
+pub cut : (at n : ℕ) → at + n - at ≡ n
+cut at n = omega arith
 
 -- The byte that a walk over n bytes from `at` on has come to.
 pub byte_next : (l : List ℕ) (at : ℕ) {n i : ℕ} → at + n ≤ length l → i < n → Seen (take n (drop at l)) n i (get_or l (at + i) 0)

@@ -1,24 +1,23 @@
 -- The bytes of a call by the byte that says which: how many, which tests its parts want, and when it is of its form.
 use Prim.Native.Nat.{ℕ, ◌+◌, ◌-◌, ◌≤◌, ◌<◌}
 use mathlib.Core.Path.{◌≡◌, sym, ap, ◌∙◌}
-use mathlib.Core.Bool.{true, false, cond, ◌&&◌}
+use mathlib.Core.Bool.{true, cond, ◌&&◌}
 use mathlib.Core.Logic.{◌⊎◌, ⊎_elim}
 use mathlib.Core.List.{List}
 use native.Mathlib.Omega.{arith}
 use lib.Dec.{leb, eqb}
-use lib.ListN.{length, get_or, drop, get_or-eq_default}
+use lib.ListN.{get_or, drop, get_or-eq_default}
 use lib.Seq.{get_or-drop}
-use borrow.Author.Tests.{ne_eqb, lt-ltb, le-ltb, le-leb, lt-leb}
+use borrow.Author.Tests.{ne_eqb}
 use Rattle.laws.specs.Lists.{All}
 use Rattle.laws.proofs.Slices.{All-get_or}
-use Rattle.laws.proofs.Tests.{cond_no, cond-lt, cond-ge, cond-ne, or_no, and_no, and-next, lt-or-ge}
+use Rattle.laws.proofs.Tests.{cond_no, cond-ge, cond-ne, or_no, lt-or-ge}
 use Rattle.decoding.specs.Bytes.{byte_at, below}
-use Rattle.decoding.specs.Operation.{op_formed}
-use Rattle.decoding.specs.Calls.{sizes, size_at, room_at, parts_formed, formed_at}
+use Rattle.decoding.specs.Calls.{sizes, size_at, room_at, parts_formed}
 
 -- A request for a text ends with a number, and is longer than that.
-pub text-size : {tag : ℕ} → 39 ≤ tag → tag < 49 → 8 < get_or sizes tag 0
-text-size {tag} h k =
+pub text_size : {tag : ℕ} → 39 ≤ tag → tag < 49 → 8 < get_or sizes tag 0
+text_size {tag} h k =
     let e : 39 + (tag - 39) ≡ tag = omega arith in
     let each : All (λ n. 8 < n) (drop 39 sizes) = omega arith in
     let here : tag - 39 < 10 = omega arith in
@@ -28,18 +27,6 @@ module _ (l : List ℕ) (at : ℕ) {tag : ℕ} where
   pub size-by : (k : ℕ) → tag ≡ byte_at l at → tag ≡ k → size_at l at ≡ get_or sizes k 0
   unfolding size_at
   size-by k e q = ap (λ t. get_or sizes t 0) (sym e ∙ q)
-
-  pub parts-op : tag ≡ 5 → parts_formed tag l at ≡ op_formed l (at + 1)
-  unfolding parts_formed
-  parts-op e = ap (λ t. parts_formed t l at) e
-
-  pub parts-flag : (tag ≡ 4) ⊎ (tag ≡ 7) → parts_formed tag l at ≡ below 2 1 l (at + 1)
-  unfolding parts_formed
-  parts-flag = ⊎_elim (λ e. ap (λ t. parts_formed t l at) e) (λ e. ap (λ t. parts_formed t l at) e)
-
-  pub parts-other : (tag ≡ 5 → ⊥) → (tag ≡ 4 → ⊥) → (tag ≡ 7 → ⊥) → tag < 39 → parts_formed tag l at ≡ true
-  unfolding parts_formed
-  parts-other f g h k = cond_no _ _ (or_no (ne_eqb tag 4 g) (ne_eqb tag 7 h)) ∙ cond-ne _ _ f ∙ cond-lt _ _ k
 
   pub parts-text : 39 ≤ tag
       → parts_formed tag l at ≡ (leb (room_at l at) 65535 && cond (eqb tag 40) (below 5 1 l (at + 1) && below 5 1 l (at + 10)) true)
@@ -51,19 +38,3 @@ module _ (l : List ℕ) (at : ℕ) {tag : ℕ} where
 pub call_known : {tag : ℕ} → 0 < get_or sizes tag 0 → tag < 49
 call_known {tag} h =
     ⊎_elim (λ k. k) (λ (k : 49 ≤ tag). absurd (let z : ⊥ = omega (arith, get_or-eq_default sizes 0 k) in z)) (lt-or-ge tag 49)
-
--- n is how many bytes the call has.
-module _ (l : List ℕ) (at : ℕ) {n : ℕ} (e : n ≡ size_at l at) where
-  pub formed-none : n ≡ 0 → formed_at l at ≡ false
-  unfolding formed_at
-  formed-none h = and_no _ (le-ltb 0 (size_at l at) (omega arith))
-
-  pub formed-short : 0 < n → length l < at + n → formed_at l at ≡ false
-  unfolding formed_at
-  formed-short h k =
-      and-next _ (lt-ltb 0 (size_at l at) (omega arith)) ∙ and_no _ (lt-leb (at + size_at l at) (length l) (omega arith))
-
-  pub formed-whole : 0 < n → at + n ≤ length l → formed_at l at ≡ parts_formed (byte_at l at) l at
-  unfolding formed_at
-  formed-whole h k =
-      and-next _ (lt-ltb 0 (size_at l at) (omega arith)) ∙ and-next _ (le-leb (at + size_at l at) (length l) (omega arith))

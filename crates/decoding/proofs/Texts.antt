@@ -5,7 +5,7 @@ use Prim.Native.Nat.{ℕ, zero, ◌+◌, ◌-◌, ◌≤◌}
 use native.Mathlib.Omega.{arith}
 use lib.ListN.{length, get_or, take, drop, replicate, length-drop, length-replicate, drop_of_length-le}
 use lib.Seq.{take_all, length-take-le}
-use Rattle.op.specs.View.{shown}
+use Rattle.op.specs.Chars.{shown}
 use Rattle.decoding.specs.Bytes.{byte_at, text_at}
 
 module _ (most : ℕ) (l : List ℕ) (at : ℕ) where

@@ -1,6 +1,6 @@
 -- A machine: the first 555 bytes of a list.
 use Rattle.std.specs.Prelude.{ℕ, ◌+◌, Bool, ◌&&◌, List, leb, length}
-use Rattle.laws.specs.Lists.{all}
+use Rattle.std.specs.List.{list_all}
 use Rattle.capability.specs.declared.PipelineStageRole.TheVariants.{Other}
 use Rattle.model.specs.Config.{Timing, timing, UnitSpec, unit_spec, generic_unit, PipelineShape, pipeline_shape}
 use Rattle.config.specs.View.{flagged, padded}
@@ -34,7 +34,7 @@ kind_formed l at = below 2 10 l (at + 9) && below 10 1 l (at + 19)
 -- All 16 roles and all 16 kinds, also those that do not count.
 unfoldable pub machine_formed : List ℕ → Bool
 machine_formed l =
-    leb 555 (length l) && (below 2 1 l 56 && (below 8 16 l 90 && all (kind_formed l) (places 28 16 107)))
+    leb 555 (length l) && (below 2 1 l 56 && (below 8 16 l 90 && list_all (kind_formed l) (places 28 16 107)))
 
 -- All of these unfold where a line says `unfolding machines`.
 unfoldable pub machines : Unit {0}

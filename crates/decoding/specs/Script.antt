@@ -1,6 +1,5 @@
 -- A list of bytes as a machine and the calls on it.
-use Rattle.std.specs.Prelude.{ℕ, zero, suc, ◌+◌, Bool, true, false, cond, ◌&&◌, List, [], ◌∷◌, eqb, ltb, leb, length}
-use Rattle.std.proofs.Math.Option.{Option, none, some}
+use Rattle.std.specs.Prelude.{ℕ, zero, suc, ◌+◌, Bool, true, false, cond, ◌&&◌, List, [], ◌∷◌, eqb, ltb, leb, length, Option, None, Some}
 use Rattle.model.specs.Config.{PipelineShape}
 use Rattle.model.specs.Calls.{Call}
 use Rattle.decoding.specs.Machine.{shape_at, entry_at, making_lent, machine_formed}
@@ -33,7 +32,7 @@ list_formed l = leb (length l) 16777216 && (machine_formed l && all_formed (leng
 
 -- None where the list is not of its form.
 unfoldable pub decode : List ℕ → Option Script
-decode l = cond (list_formed l) (some (script_of l)) none
+decode l = cond (list_formed l) (Some (script_of l)) None
 
 -- All of these unfold where a line says `unfolding scripts`.
 unfoldable pub scripts : Unit {0}

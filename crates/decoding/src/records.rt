@@ -1,5 +1,5 @@
 // The bytes of a call: how many, and whether they are of their form.
-ghost use Rattle.std.specs.Prelude.{◌≡◌, ◌&&◌, ◌+◌, ◌≤◌, ◌<◌, leb, length, get_or};
+ghost use Rattle.std.specs.Prelude.{◌≡◌, ◌&&◌, ◌+◌, ◌≤◌, ◌<◌, length, get_or};
 ghost use Rattle.decoding.specs.Bytes.{byte_at, below};
 ghost use Rattle.decoding.specs.Calls.{sizes, size_at, room_at, parts_formed, formed_at};
 
@@ -14,21 +14,17 @@ const SIZES: [usize; 49] = [
 pub fn size_of(tag: u8) -> usize
     ensures { result ≡ get_or sizes tag 0 }
 {
-    let n = tag as usize;
-    if n < 49 {
-        return SIZES[n];
-    }
-    0
+    SIZES.get(tag as usize).copied().unwrap_or(0)
 }
 
 // The last number of a text request.
+#[tactic(auto, unfolding(crate::specs::Calls::room_at, crate::specs::Calls::size_at, crate::specs::Bytes::byte_at))]
 pub fn room_at(list: &[u8], at: usize) -> u64
     requires at_in_bounds { at + size_at list.now at ≤ length list.now }
     requires bound { 8 < size_at list.now at }
     ensures { result ≡ room_at list.now at }
 {
-    let n = size_of(list[at]);
-    let back = n - 8;
+    let back = size_of(list[at]) - 8;
     parts::number_at(list, at + back)
 }
 
@@ -37,38 +33,27 @@ fn place_formed(list: &[u8], at: usize) -> bool
     requires { at + 27 ≤ length list.now }
     ensures { result ≡ below 5 1 list.now (at + 1) && below 5 1 list.now (at + 10) }
 {
-    if !form::below(list, at + 1, 1, 5) {
-        return false;
-    }
-    form::below(list, at + 10, 1, 5)
+    form::below(list, at + 1, 1, 5) && form::below(list, at + 10, 1, 5)
 }
 
 // Of a call with parts that have a form.
+#[tactic(auto, using(crate::proofs::Sizes::text_size), unfolding(crate::specs::Calls::parts_formed, crate::specs::Calls::size_at))]
 fn parts_formed(list: &[u8], at: usize, tag: u8) -> bool
     requires tag_value { tag ≡ byte_at list.now at }
     requires tag_bound { tag < 49 }
     requires at_in_bounds { at + size_at list.now at ≤ length list.now }
     ensures { result ≡ parts_formed tag list.now at }
 {
-    if tag == 5 {
-        return form::op_formed(list, at + 1);
+    match tag {
+        5 => form::op_formed(list, at + 1),
+        4 | 7 => form::below(list, at + 1, 1, 2),
+        0..=38 => true,
+        _ => room_at(list, at) <= 65535 && (tag != 40 || place_formed(list, at)),
     }
-    if tag == 4 || tag == 7 {
-        return form::below(list, at + 1, 1, 2);
-    }
-    if tag < 39 {
-        return true;
-    }
-    if 65535 < room_at(list, at) {
-        return false;
-    }
-    if tag == 40 {
-        return place_formed(list, at);
-    }
-    true
 }
 
 // Is the call at a place there, whole and of its form?
+#[tactic(auto, unfolding(crate::specs::Calls::formed_at, crate::specs::Calls::size_at, crate::specs::Bytes::byte_at))]
 pub fn formed(list: &[u8], at: usize) -> bool
     requires { at < length list.now }
     ensures { result ≡ formed_at list.now at }
@@ -78,8 +63,5 @@ pub fn formed(list: &[u8], at: usize) -> bool
     if n == 0 {
         return false;
     }
-    if list.len() - at < n {
-        return false;
-    }
-    parts_formed(list, at, tag)
+    n <= list.len() - at && parts_formed(list, at, tag)
 }

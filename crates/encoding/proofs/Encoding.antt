@@ -3,7 +3,7 @@ use Prim.Native.Nat.{ℕ, zero, suc, ◌+◌, ◌≤◌, ◌<◌}
 use native.Mathlib.Omega.{arith}
 use mathlib.Core.Path.{◌≡◌, refl, sym, ap, ap₂, ◌∙◌}
 use mathlib.Core.Bool.{true, false, ◌&&◌}
-use mathlib.Core.Option.{none, some}
+use Rattle.std.specs.Prelude.{None, Some}
 use mathlib.Core.List.{List, [], ◌∷◌, map, flatten}
 use lib.Dec.{ltb}
 use lib.ListN.{length, length-append}
@@ -124,6 +124,6 @@ encodes s w =
     let r = machine-is s.shape s.entry s.lent w.shape w.entry w.lent whole in
     let long : length l ≡ 555 + total s.calls = script-length s ∙ ap (λ n. n + total s.calls) form.size in
     let q = calls-read l s.calls (length l) 555 w.calls (stands-next whole form.size) (sym long) (omega (arith, long)) in
-    cond_yes (some (script_of l)) none
+    cond_yes (Some (script_of l)) None
     (and_yes (le-leb (length l) 16777216 w.size) (and_yes (r.formed (omega (arith, long))) q.1))
-    ∙ (λ i. some (record { shape = r.shape i; entry = r.entry i; lent = r.lent i; calls = q.0 i }))
+    ∙ (λ i. Some (record { shape = r.shape i; entry = r.entry i; lent = r.lent i; calls = q.0 i }))

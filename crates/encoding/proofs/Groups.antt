@@ -17,20 +17,7 @@ use Rattle.decoding.specs.Calls.{Reader, sizes, size_at, drives, shows, asks, re
 use Rattle.encoding.specs.Parts.{byte, number_bytes}
 use Rattle.encoding.specs.Calls.{numbered, part_bytes}
 use Rattle.encoding.specs.Limits.{Number, Byte}
-use Rattle.encoding.proofs.Stands.{
-  Stands,
-  stands-two,
-  stands-byte,
-  stands-below,
-  all_so,
-  form-two,
-  Forms,
-  forms-next,
-  Codes,
-  after,
-  next,
-  parts-form,
-}
+use Rattle.encoding.proofs.Stands.{Stands, stands-two, stands-byte, stands-below, all_so, form-two, Forms, forms-next, Codes, after, next, parts-form}
 use Rattle.encoding.proofs.Parts.{codes-number, codes-count}
 
 -- A call of these parts, at a place of a list.

@@ -7,7 +7,8 @@ use mathlib.Core.List.{List, ◌∷◌, ◌++◌, map, flatten}
 use lib.ListN.{length, get_or, take, replicate}
 use borrow.Author.Tests.{le-leb}
 use Rattle.laws.proofs.Tests.{and_yes}
-use Rattle.laws.specs.Lists.{all, any, keep}
+use Rattle.laws.specs.Lists.{keep}
+use Rattle.std.specs.List.{list_all, list_any}
 use Rattle.capability.specs.declared.PipelineStageRole.TheVariants.{Fetch, Other}
 use Rattle.capability.specs.Numbers.{class_number}
 use Rattle.model.specs.Config.{Timing, timing, UnitSpec, unit_spec, generic_unit, PipelineShape, pipeline_shape}
@@ -18,22 +19,7 @@ use Rattle.encoding.specs.Parts.{byte, number_bytes, flag_bytes, role_bytes, fil
 use Rattle.encoding.specs.Records.{flags_of, kind_parts, kind_bytes, spare_kind, extras, machine_parts, machine_bytes}
 use Rattle.encoding.specs.Limits.{Number, Few, WithinKind, WithinShape}
 use Rattle.encoding.proofs.Stands.{Stands, stands-in, all_so, always, Form, Forms, forms-end, forms-next, Codes, after, next, Passes, codes-parts, parts-pass}
-use Rattle.encoding.proofs.Parts.{
-  codes-number,
-  codes-count,
-  codes-flag,
-  codes-class,
-  codes-role,
-  codes-text,
-  codes-optional,
-  codes-few,
-  filled-length,
-  filled-all,
-  optional-formed,
-  flags-formed,
-  role-formed,
-  class-formed,
-}
+use Rattle.encoding.proofs.Parts.{codes-number, codes-count, codes-flag, codes-class, codes-role, codes-text, codes-optional, codes-few, filled-length, filled-all, optional-formed, flags-formed, role-formed, class-formed}
 
 -- ---- a kind of unit
 
@@ -70,7 +56,7 @@ unfolding kind_bytes
 kind-passes k w = record { pass = λ s. (kind-reads k w (stands-in (kind_parts k) s)).1 }
 
 spare-within : WithinKind spare_kind
-unfolding flags_of flagged flag keep any class_number
+unfolding flags_of flagged flag keep class_number
 spare-within = record { name = (omega arith, tt); classes = refl; capacity = omega arith }
 
 -- ---- a machine
@@ -120,13 +106,13 @@ module _ (d : PipelineShape) (entry lent : ℕ) (w : WithinShape d) (e : Number 
   roles-formed s = role-formed (filled 16 Fetch d.stages) stages.form.size s
 
   kinds-formed : {ps : List (List ℕ)} {l : List ℕ} {at : ℕ} → Stands (parts_bytes kind_bytes 16 spare_kind d.units ∷ ps) l at
-      → all (kind_formed l) (places 28 16 at) ≡ true
+      → list_all (kind_formed l) (places 28 16 at) ≡ true
   unfolding parts_bytes
   kinds-formed {l = l} {at = at} s =
       let sixteen : List UnitSpec = filled 16 spare_kind d.units in
       let within = filled-all 16 spare_kind d.units w.units.0 WithinKind spare-within w.units.1 in
       let both = all_so WithinKind (λ k. Codes kind_bytes kind_at 28 k × Passes kind_bytes kind_formed k) (λ k h. (codes-kind k h, kind-passes k h)) sixteen within in
-      ap (λ n. all (kind_formed l) (places 28 n at)) (sym (filled-length 16 spare_kind d.units w.units.0))
+      ap (λ n. list_all (kind_formed l) (places 28 n at)) (sym (filled-length 16 spare_kind d.units w.units.0))
       ∙ parts-pass kind_bytes kind_at 28 kind_formed sixteen at both s
 
   machine-reads : {l : List ℕ} → Stands (machine_parts d entry lent) l 0 → MachineRead d entry lent l

@@ -15,18 +15,7 @@ use Rattle.encoding.specs.Parts.{optional_bytes, parts_bytes}
 use Rattle.encoding.specs.Records.{text_of, name_of, op_parts, op_bytes}
 use Rattle.encoding.specs.Limits.{Short, Few, WithinOp}
 use Rattle.encoding.proofs.Stands.{Stands, stands-in, Forms, forms-end, forms-next, Codes, after, next}
-use Rattle.encoding.proofs.Parts.{
-  codes-number,
-  codes-count,
-  codes-flag,
-  codes-class,
-  codes-text,
-  codes-optional,
-  optional-formed,
-  both-formed,
-  class-formed,
-  codes-few,
-}
+use Rattle.encoding.proofs.Parts.{codes-number, codes-count, codes-flag, codes-class, codes-text, codes-optional, optional-formed, both-formed, class-formed, codes-few}
 
 pub codes-64 : (t : Text) → Short 64 t → Codes text_of (text_at 64) 65 t
 codes-64 t h = codes-text (omega arith) h

@@ -4,12 +4,13 @@ use native.Mathlib.Nat.{pow-suc}
 use native.Mathlib.Omega.{arith}
 use mathlib.Core.Path.{◌≡◌, refl, ap, ap₂, ◌∙◌}
 use mathlib.Core.Bool.{Bool, true, false, cond}
-use mathlib.Core.Option.{Option, none, some}
+use Rattle.std.specs.Prelude.{Option, None, Some}
 use mathlib.Core.List.{List, ◌∷◌, ◌++◌, map, flatten, append-nil}
 use lib.Dec.{eqb}
 use lib.ListN.{length, take, replicate, length-append, length-replicate}
 use lib.Seq.{take-append_seam}
-use Rattle.laws.specs.Optional.{is_some, value_or}
+use Rattle.laws.specs.Optional.{value_or}
+use Rattle.std.specs.Prelude.{is_some}
 use Rattle.laws.specs.Lists.{All}
 use Rattle.laws.specs.Texts.{Text}
 use Rattle.laws.proofs.Tests.{cond-ge}
@@ -21,37 +22,11 @@ use Rattle.capability.specs.declared.PipelineStageRole.TheVariants.{Other}
 use Rattle.capability.specs.Numbers.{class_number, role_number}
 use Rattle.capability.specs.Cases.{class_of, role_of}
 use Rattle.capability.proofs.Numbered.{classes-numbered, roles-numbered}
-use Rattle.op.specs.View.{shown}
+use Rattle.op.specs.Chars.{shown}
 use Rattle.decoding.specs.Bytes.{byte_at, little, number_at, flag_at, class_at, role_at, text_at, optional_at, parts_at, below}
-use Rattle.encoding.specs.Parts.{
-  byte,
-  low_bytes,
-  number_bytes,
-  flag_bytes,
-  class_bytes,
-  role_bytes,
-  filled,
-  text_bytes,
-  optional_bytes,
-  parts_bytes,
-}
+use Rattle.encoding.specs.Parts.{byte, low_bytes, number_bytes, flag_bytes, class_bytes, role_bytes, filled, text_bytes, optional_bytes, parts_bytes}
 use Rattle.encoding.specs.Limits.{Number, Byte, Short, Few, Where}
-use Rattle.encoding.proofs.Stands.{
-  Stands,
-  stands-two,
-  stands-joined,
-  stands-next,
-  stands-take,
-  stands-byte,
-  stands-below,
-  all_so,
-  all-parts,
-  Form,
-  form-two,
-  Codes,
-  after,
-  codes-parts,
-}
+use Rattle.encoding.proofs.Stands.{Stands, stands-two, stands-joined, stands-next, stands-take, stands-byte, stands-below, all_so, all-parts, Form, form-two, Codes, after, codes-parts}
 
 -- ---- numbers
 
@@ -172,17 +147,17 @@ optional-formed f spare o s = flag-formed (is_some o) (stands-two (flag_bytes (i
 
 module _ {A : Type 0} {f : A → List ℕ} {g : List ℕ → ℕ → A} {n : ℕ} {P : A → Type 0} (codes : (a : A) → P a → Codes f g n a) where
   -- The flag and what follows it.
-  flagged-part : (b : Bool) {a : A} {r : Option A} → P a → cond b (some a) none ≡ r → {l : List ℕ} {at : ℕ} {ps : List (List ℕ)}
+  flagged-part : (b : Bool) {a : A} {r : Option A} → P a → cond b (Some a) None ≡ r → {l : List ℕ} {at : ℕ} {ps : List (List ℕ)}
       → Stands ((flag_bytes b ++ f a) ∷ ps) l at → optional_at g l at ≡ r
   unfolding optional_at
   flagged-part b {a} w e s =
       let t = stands-two (flag_bytes b) (f a) s in
-      ap₂ (λ c v. cond c (some v) none) ((codes-flag b).reads t) ((codes a w).reads (after (codes-flag b) t)) ∙ e
+      ap₂ (λ c v. cond c (Some v) None) ((codes-flag b).reads t) ((codes a w).reads (after (codes-flag b) t)) ∙ e
 
   pub codes-optional : (spare : A) → P spare → (o : Option A) → Where P o → Codes (optional_bytes f spare) (optional_at g) (1 + n) o
   unfolding optional_bytes
-  codes-optional spare p none w = record { form = form-two (codes-flag false).form (codes spare p).form; reads = flagged-part false p refl }
-  codes-optional spare p (some a) w = record { form = form-two (codes-flag true).form (codes a w).form; reads = flagged-part true w refl }
+  codes-optional spare p None w = record { form = form-two (codes-flag false).form (codes spare p).form; reads = flagged-part false p refl }
+  codes-optional spare p (Some a) w = record { form = form-two (codes-flag true).form (codes a w).form; reads = flagged-part true w refl }
 
   -- `most` entries, of which so many are taken as there were before they were filled up.
   module _ (most : ℕ) (spare x : A) (as' : List A) (p : P spare) (w : Few most P as') where
@@ -195,10 +170,10 @@ module _ {A : Type 0} {f : A → List ℕ} {g : List ℕ → ℕ → A} {n : ℕ
         : Codes (parts_bytes f most spare) (λ l at. take (length as') (parts_at g n most l at) ++ replicate (length as' - most) x) (most * n) as'
     unfolding parts_bytes
     codes-few =
-        let none : length as' - most ≡ 0 = omega (arith, w.0) in
+        let None : length as' - most ≡ 0 = omega (arith, w.0) in
         record {
           form = codes-filled.form;
           reads = λ s.
-              ap₂ (λ t k. take (length as') t ++ replicate k x) (codes-filled.reads s) none
+              ap₂ (λ t k. take (length as') t ++ replicate k x) (codes-filled.reads s) None
               ∙ append-nil (take (length as') (filled most spare as')) ∙ filled-front most spare as' w.0;
         }

@@ -3,20 +3,11 @@ use native.Mathlib.Omega.{arith}
 use mathlib.Core.Path.{◌≡◌, refl}
 use mathlib.Core.List.{flatten}
 use lib.ListN.{length}
-use Rattle.laws.specs.Lists.{All, any, keep}
+use Rattle.laws.specs.Lists.{All, keep}
+use Rattle.std.specs.List.{list_any}
 use Rattle.capability.specs.Numbers.{class_number}
 use Rattle.config.specs.View.{flag, flagged}
-use Rattle.encoding.specs.Parts.{
-  low_bytes,
-  number_bytes,
-  flag_bytes,
-  class_bytes,
-  role_bytes,
-  filled,
-  text_bytes,
-  optional_bytes,
-  parts_bytes,
-}
+use Rattle.encoding.specs.Parts.{low_bytes, number_bytes, flag_bytes, class_bytes, role_bytes, filled, text_bytes, optional_bytes, parts_bytes}
 use Rattle.encoding.specs.Records.{flags_of, op_bytes, kind_bytes, machine_bytes}
 use Rattle.encoding.specs.Calls.{call_bytes, script_bytes}
 use Rattle.encoding.specs.Limits.{WithinCall}
@@ -32,7 +23,7 @@ refused-calls : All WithinCall refused_script.calls
 refused-calls = omega arith
 
 pub leaves-refused : LeavesRefused
-unfolding flags_of flagged flag keep any class_number
+unfolding flags_of flagged flag keep class_number
 leaves-refused =
     record {
       shape = record {

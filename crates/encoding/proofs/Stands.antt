@@ -8,7 +8,8 @@ use lib.Dec.{ltb}
 use lib.ListN.{length, get_or, take, drop, length-append}
 use lib.Seq.{take_at, drop_at, drop-drop, get_or-drop}
 use borrow.Author.Tests.{lt-ltb}
-use Rattle.laws.specs.Lists.{All, all}
+use Rattle.laws.specs.Lists.{All}
+use Rattle.std.specs.List.{list_all}
 use Rattle.laws.proofs.Search.{all-miss}
 use Rattle.laws.proofs.Slices.{All-append}
 use Rattle.decoding.specs.Bytes.{byte_at, places, parts_at, below}
@@ -62,15 +63,14 @@ pub always : {A : Type 0} (P : A → Type 0) → ((x : A) → P x) → (l : List
 always P h [] = tt
 always P h (x ∷ xs) = (h x, always P h xs)
 
-all_true : {A : Type 0} (p : A → Bool) (l : List A) → All (λ x. p x ≡ true) l → all p l ≡ true
-unfolding all
+all_true : {A : Type 0} (p : A → Bool) (l : List A) → All (λ x. p x ≡ true) l → list_all p l ≡ true
 all_true p [] a = refl
 all_true p (x ∷ xs) a = all-miss p a.0 xs ∙ all_true p xs a.1
 
 pub stands-below : {a l : List ℕ} {ps : List (List ℕ)} {at n : ℕ} (most : ℕ) → Stands (a ∷ ps) l at → length a ≡ n → All (λ b. b < most) a
     → below most n l at ≡ true
 unfolding below
-stands-below {a} most s e h = ap (all (λ (b : ℕ). ltb b most)) (stands-take s e) ∙ all_true (λ b. ltb b most) a tests
+stands-below {a} most s e h = ap (list_all (λ (b : ℕ). ltb b most)) (stands-take s e) ∙ all_true (λ b. ltb b most) a tests
   where
     tests : All (λ b. ltb b most ≡ true) a
     tests = all_so (λ b. b < most) (λ b. ltb b most ≡ true) (λ b k. lt-ltb b most k) a h
@@ -147,8 +147,8 @@ module _ {A : Type 0} (f : A → List ℕ) (g : List ℕ → ℕ → A) (n : ℕ
   -- A test that each part passes, at each part's place.
   pub parts-pass : (ok : List ℕ → ℕ → Bool) {l : List ℕ} {ps : List (List ℕ)} (as' : List A) (at : ℕ)
       → All (λ a. Codes f g n a × Passes f ok a) as' → Stands (flatten (map f as') ∷ ps) l at
-      → all (ok l) (places n (length as') at) ≡ true
-  unfolding flatten places all
+      → list_all (ok l) (places n (length as') at) ≡ true
+  unfolding flatten places
   parts-pass ok [] at c s = refl
   parts-pass ok {l} (a ∷ as') at c s =
       let t = stands-two (f a) (flatten (map f as')) s in

@@ -1,6 +1,6 @@
 -- Every machine and list of calls within the limits has a byte form, and that form decodes to it.
 use Rattle.std.specs.Prelude.{◌≡◌, false, [], ◌∷◌, length}
-use Rattle.std.proofs.Math.Option.{none, some}
+use Rattle.std.specs.Prelude.{None, Some}
 use Rattle.laws.specs.Lists.{All}
 use Rattle.laws.specs.Numbers.{max64}
 use Rattle.capability.specs.declared.PipelineInstructionClass.TheVariants.{Alu, Unknown}
@@ -13,7 +13,7 @@ use Rattle.encoding.specs.Calls.{call_bytes, script_bytes}
 use Rattle.encoding.specs.Limits.{Byte, WithinCall, Within}
 
 abbrev pub Encodes : Type 0
-Encodes = (s : Script) → Within s → decode (script_bytes s) ≡ some s
+Encodes = (s : Script) → Within s → decode (script_bytes s) ≡ Some s
 
 -- The form is a list of bytes.
 abbrev pub Bytewise : Type 0
@@ -27,10 +27,10 @@ Sized = (c : Call) → WithinCall c → length (call_bytes c) ≡ size_at (call_
 abbrev pub refused_script : Script
 refused_script =
     record {
-      shape = pipeline_shape [] none (timing max64 0 0 0 0 0 0) (unit_spec [] [] Alu 65 ∷ []) 257;
+      shape = pipeline_shape [] None (timing max64 0 0 0 0 0 0) (unit_spec [] [] Alu 65 ∷ []) 257;
       entry = 0;
       lent = 0;
-      calls = retire ∷ retry (0 ∷ 255 ∷ []) ∷ fetch (given (decoded 0 0 Unknown false false) (info_of [] none (some (10 ∷ [])) [] [] 0)) 0 ∷ [];
+      calls = retire ∷ retry (0 ∷ 255 ∷ []) ∷ fetch (given (decoded 0 0 Unknown false false) (info_of [] None (Some (10 ∷ [])) [] [] 0)) 0 ∷ [];
     }
 
 abbrev pub LeavesRefused : Type 0

@@ -1,45 +1,13 @@
 -- The limits within which every machine and call has a byte form: those of the numbers, the texts and the lists, whatever the engine makes of them.
 use Rattle.std.specs.Prelude.{ℕ, ◌≤◌, ◌≡◌, List, length}
-use Rattle.std.proofs.Math.Option.{Option, none, some}
+use Rattle.std.specs.Prelude.{Option, None, Some}
 use Rattle.laws.specs.Lists.{All}
 use Rattle.laws.specs.Numbers.{max64}
 use Rattle.laws.specs.Texts.{Text}
 use Rattle.model.specs.Op.{Given}
 use Rattle.model.specs.Config.{UnitSpec, PipelineShape}
-use Rattle.model.specs.Requests.{
-  Place,
-  Field,
-  Request,
-  status_message,
-  slot_text,
-  trace_detail,
-  row_disassembly,
-  stage_name,
-  unit_name,
-  station_label,
-  rename_register,
-  cell_label,
-  operand_register,
-}
-use Rattle.model.specs.Calls.{
-  View,
-  Call,
-  start,
-  retire,
-  retry,
-  resolve,
-  advance,
-  fetch,
-  capacity,
-  overlap,
-  halt,
-  fault,
-  reset,
-  redirect,
-  view,
-  cell,
-  text,
-}
+use Rattle.model.specs.Requests.{Place, Field, Request, status_message, slot_text, trace_detail, row_disassembly, stage_name, unit_name, station_label, rename_register, cell_label, operand_register}
+use Rattle.model.specs.Calls.{View, Call, start, retire, retry, resolve, advance, fetch, capacity, overlap, halt, fault, reset, redirect, view, cell, text}
 use Rattle.config.specs.View.{flagged}
 use Rattle.decoding.specs.Script.{Script}
 use Rattle.encoding.specs.Records.{flags_of, extras}
@@ -62,8 +30,8 @@ Few most P l = (length l ≤ most) × All P l
 
 -- Where it is there.
 abbrev pub Where : {A : Type 0} → (A → Type 0) → Option A → Type 0
-Where P none = Unit {0}
-Where P (some a) = P a
+Where P None = Unit {0}
+Where P (Some a) = P a
 
 pub record WithinOp (g : Given) : Type 0 where
   pub address : Number g.decoded.address

@@ -1,8 +1,9 @@
 -- The bytes of a part (docs/CALLS.md, Parts). Bytes that do not count are 0.
 use Rattle.std.specs.Prelude.{ℕ, zero, suc, ◌-◌, ◌/◌, ◌%◌, Bool, cond, length, replicate}
-use Rattle.std.proofs.Math.Option.{Option}
+use Rattle.std.specs.Prelude.{Option}
 use mathlib.Core.List.{List, [], ◌∷◌, ◌++◌, map, flatten}
-use Rattle.laws.specs.Optional.{is_some, value_or}
+use Rattle.laws.specs.Optional.{value_or}
+use Rattle.std.specs.Prelude.{is_some}
 use Rattle.laws.specs.Texts.{Text}
 use Rattle.capability.specs.declared.PipelineInstructionClass.{PipelineInstructionClass}
 use Rattle.capability.specs.declared.PipelineStageRole.{PipelineStageRole}

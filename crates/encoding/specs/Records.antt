@@ -1,7 +1,7 @@
 -- The bytes of an operation (382), of a kind of unit (28) and of a machine (555): the parts in order.
 use Rattle.std.specs.Prelude.{ℕ, Bool, length}
 use mathlib.Core.List.{List, [], ◌∷◌, map, flatten}
-use Rattle.laws.specs.Lists.{any}
+use Rattle.std.specs.List.{list_any}
 use Rattle.laws.specs.Texts.{Text}
 use Rattle.capability.specs.declared.PipelineInstructionClass.{PipelineInstructionClass}
 use Rattle.capability.specs.declared.PipelineInstructionClass.TheVariants.{Alu}
@@ -9,16 +9,7 @@ use Rattle.capability.specs.declared.PipelineStageRole.TheVariants.{Fetch}
 use Rattle.capability.specs.Cases.{classes}
 use Rattle.model.specs.Op.{Given}
 use Rattle.model.specs.Config.{same_class, Timing, UnitSpec, unit_spec, PipelineShape}
-use Rattle.encoding.specs.Parts.{
-  byte,
-  number_bytes,
-  flag_bytes,
-  class_bytes,
-  role_bytes,
-  text_bytes,
-  optional_bytes,
-  parts_bytes,
-}
+use Rattle.encoding.specs.Parts.{byte, number_bytes, flag_bytes, class_bytes, role_bytes, text_bytes, optional_bytes, parts_bytes}
 
 abbrev pub text_of : Text → List ℕ
 text_of t = text_bytes 64 t
@@ -48,7 +39,7 @@ op_bytes g = flatten (op_parts g)
 
 -- Ten flags, one a class: is it listed?
 unfoldable pub flags_of : List PipelineInstructionClass → List Bool
-flags_of cs = map (λ (c : PipelineInstructionClass). any (same_class c) cs) classes
+flags_of cs = map (λ (c : PipelineInstructionClass). list_any (same_class c) cs) classes
 
 abbrev pub kind_parts : UnitSpec → List (List ℕ)
 kind_parts k =

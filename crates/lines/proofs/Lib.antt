@@ -2,7 +2,6 @@ pub mod Cut
 pub mod ClassAndSize
 pub mod Pieces
 pub mod Names
-pub mod Readings
 pub mod Parsed
 pub mod Stands
 pub mod Lines

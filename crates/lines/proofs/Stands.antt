@@ -3,14 +3,14 @@ use Prim.Native.Nat.{ℕ, zero, suc, ◌≤◌, ◌<◌}
 use mathlib.Core.Path.{◌≡◌, refl, sym, ap, ap₂, subst, ◌∙◌}
 use mathlib.Core.Logic.{⊎_elim}
 use mathlib.Core.Bool.{Bool, true, false, cond, not, ◌||◌}
-use mathlib.Core.Option.{Option, none, some}
+use Rattle.std.specs.Prelude.{Option, None, Some}
 use mathlib.Core.List.{List, [], ◌∷◌, ◌++◌, map, append_assoc, append-nil}
 use native.Mathlib.Omega.{arith}
 use lib.Dec.{eqb, ltb, lit<}
 use lib.ListN.{length, take, length-map}
 use lib.Seq.{take_all}
 use borrow.Author.Tests.{ltb-false}
-use Rattle.laws.specs.Lists.{any}
+use Rattle.std.specs.List.{list_any}
 use Rattle.laws.specs.Numbers.{max64}
 use Rattle.laws.specs.Texts.{Text}
 use Rattle.laws.proofs.Tests.{true-or-false, or-neither}
@@ -37,17 +37,15 @@ module _ (most : ℕ) (h : most < 255) where
   unfolding kept bad_text
   kept_same t e = shown-whole most t h (ltb-false most (length t) (or-neither _ _ e).0)
 
-names-bad : (n : ℕ) (ns : List Text) → any (bad_text 16) (take n (map (kept 16) ns)) ≡ any (bad_text 16) (take n ns)
-unfolding any
+names-bad : (n : ℕ) (ns : List Text) → list_any (bad_text 16) (take n (map (kept 16) ns)) ≡ list_any (bad_text 16) (take n ns)
 names-bad zero ns = refl
 names-bad (suc n) [] = refl
 names-bad (suc n) (x ∷ ns) = ap₂ ◌||◌ (kept-bad 16 (lit< tt) x) (names-bad n ns)
 
-names_same : (ns : List Text) → any (bad_text 16) ns ≡ false → map (kept 16) ns ≡ ns
-unfolding any
+names_same : (ns : List Text) → list_any (bad_text 16) ns ≡ false → map (kept 16) ns ≡ ns
 names_same [] e = refl
 names_same (x ∷ ns) e =
-    let k = or-neither (bad_text 16 x) (any (bad_text 16) ns) e in
+    let k = or-neither (bad_text 16 x) (list_any (bad_text 16) ns) e in
     ap₂ ◌∷◌ (kept_same 16 (lit< tt) x k.0) (names_same ns k.1)
 
 -- All names, pushed one after the other.
@@ -64,10 +62,10 @@ pushes-alike most h (n ∷ ns) {l} {m} e =
 
 -- Within the limits an array holds all of the names.
 list_same : (most : ℕ) (ns : List Text) {k : List Text} → Alike most k (map (kept 16) ns) → ltb most (length ns) ≡ false
-    → any (bad_text 16) (take most ns) ≡ false → k ≡ ns
+    → list_any (bad_text 16) (take most ns) ≡ false → k ≡ ns
 list_same most ns e m b =
     let h : length ns ≤ most = ltb-false most (length ns) m in
-    alike_same e (simp length-map h) ∙ names_same ns (sym (ap (any (bad_text 16)) (take_all most ns h)) ∙ b)
+    alike_same e (simp length-map h) ∙ names_same ns (sym (ap (list_any (bad_text 16)) (take_all most ns h)) ∙ b)
 
 -- ── What the arrays hold ──────────────────────────────────────────────────────
 
@@ -89,7 +87,7 @@ module _ (l : Line) (a : ℕ) where
   writes = pushes 4 l.writes []
 
   arrays : Given
-  arrays = given (decoded a l.size l.class (branches l.class) false) (info_of (kept 64 l.text) none none sources writes 0)
+  arrays = given (decoded a l.size l.class (branches l.class) false) (info_of (kept 64 l.text) None None sources writes 0)
 
   held-arrays : held a l ≡ arrays
   unfolding held plain arrays sources writes
@@ -108,26 +106,26 @@ module _ (l : Line) (a : ℕ) where
   arrays-bad : bad_info arrays.info ≡ bad_info (line_given l a).info
   unfolding arrays bad_info line_given
   arrays-bad =
-      alike-bad (kept 64 l.text) none none 0 sources-alike writes-alike
-      ∙ ap₂ (λ b c. b || false || false || c || any (bad_text 16) (take 4 (map (kept 16) l.writes))) (kept-bad 64 (lit< tt) l.text) (names-bad 8 l.reads)
-      ∙ ap (λ c. bad_text 64 l.text || false || false || any (bad_text 16) (take 8 l.reads) || c) (names-bad 4 l.writes)
+      alike-bad (kept 64 l.text) None None 0 sources-alike writes-alike
+      ∙ ap₂ (λ b c. b || false || false || c || list_any (bad_text 16) (take 4 (map (kept 16) l.writes))) (kept-bad 64 (lit< tt) l.text) (names-bad 8 l.reads)
+      ∙ ap (λ c. bad_text 64 l.text || false || false || list_any (bad_text 16) (take 8 l.reads) || c) (names-bad 4 l.writes)
 
   arrays-many : too_many arrays.info ≡ too_many (line_given l a).info
   unfolding arrays too_many line_given
   arrays-many =
-      alike-many (kept 64 l.text) none none 0 sources-alike writes-alike
+      alike-many (kept 64 l.text) None None 0 sources-alike writes-alike
       ∙ ap₂ (λ m n. ltb 8 m || ltb 4 n) (length-map l.reads (kept 16)) (length-map l.writes (kept 16))
 
   arrays-same : bad_info (line_given l a).info ≡ false → too_many (line_given l a).info ≡ false → arrays ≡ line_given l a
   unfolding arrays bad_info too_many line_given
   arrays-same b m =
-      let x = or-neither (bad_text 64 l.text || false || false || any (bad_text 16) (take 8 l.reads)) _ b in
+      let x = or-neither (bad_text 64 l.text || false || false || list_any (bad_text 16) (take 8 l.reads)) _ b in
       let y = or-neither (bad_text 64 l.text || false || false) _ x.0 in
       let z = or-neither (bad_text 64 l.text) false (or-neither (bad_text 64 l.text || false) false y.0).0 in
       let n = or-neither (ltb 8 (length l.reads)) (ltb 4 (length l.writes)) m in
-      ap₂ (λ t r. given (decoded a l.size l.class (branches l.class) false) (info_of t none none r writes 0))
+      ap₂ (λ t r. given (decoded a l.size l.class (branches l.class) false) (info_of t None None r writes 0))
       (kept_same 64 (lit< tt) l.text z.0) (list_same 8 l.reads sources-alike n.0 y.1)
-      ∙ ap (λ w. given (decoded a l.size l.class (branches l.class) false) (info_of l.text none none l.reads w 0))
+      ∙ ap (λ w. given (decoded a l.size l.class (branches l.class) false) (info_of l.text None None l.reads w 0))
       (list_same 4 l.writes writes-alike n.1 x.1)
 
   pub held-stands : (o : PipelineOp) → view_op o ≡ held a l → Stands (line_given l a) o
@@ -143,7 +141,7 @@ module _ (l : Line) (a : ℕ) where
 
 -- The first four checks of a fetch, and what comes of the others.
 unfoldable four : Bool → Bool → Bool → Bool → Option ℕ → Option ℕ
-four p q b m rest = cond p (some 4) (cond q (some 8) (cond b (some 2) (cond m (some 9) rest)))
+four p q b m rest = cond p (Some 4) (cond q (Some 8) (cond b (Some 2) (cond m (Some 9) rest)))
 
 four-refused : (p q b m : Bool) (x y : Option ℕ) → (b || m) ≡ true → four p q b m x ≡ four p q b m y
 unfolding four
@@ -151,7 +149,7 @@ four-refused p q true m x y e = refl
 four-refused p q false true x y e = refl
 four-refused p q false false x y e = absurd (let z : ◌≡◌ {A = ℕ} 0 1 = cc in omega arith)
 
-four-passed : (p q b m : Bool) (x : Option ℕ) → four p q b m x ≡ none → (b ≡ false) × (m ≡ false)
+four-passed : (p q b m : Bool) (x : Option ℕ) → four p q b m x ≡ None → (b ≡ false) × (m ≡ false)
 unfolding four
 four-passed true q b m x e = absurd (let z : ◌≡◌ {A = ℕ} 0 1 = cc in omega arith)
 four-passed false true b m x e = absurd (let z : ◌≡◌ {A = ℕ} 0 1 = cc in omega arith)

@@ -1,6 +1,5 @@
 -- A line that was read, and what its operation stands for.
-use Rattle.std.specs.Prelude.{ℕ, ◌≤◌, ◌<◌, ◌≡◌, true, false, length, drop}
-use Rattle.std.proofs.Math.Option.{none, some}
+use Rattle.std.specs.Prelude.{ℕ, ◌≤◌, ◌<◌, ◌≡◌, false, length, drop, None, Some}
 use Rattle.laws.specs.Texts.{Text}
 use Rattle.model.specs.Op.{Given}
 use Rattle.model.specs.State.{State}
@@ -20,12 +19,12 @@ pub record Stands (g : Given) (o : PipelineOp) : Type 0 where
 -- A fetch refuses the one as it refuses the other, and takes the same.
 pub record FetchedAlike (s : State) (lent : ℕ) (g : Given) (o : PipelineOp) : Type 0 where
   pub refused : refusal s (fetch (view_op o) lent) ≡ refusal s (fetch g lent)
-  pub taken : refusal s (fetch g lent) ≡ none → view_op o ≡ g
+  pub taken : refusal s (fetch g lent) ≡ None → view_op o ≡ g
 
 -- The line of the input that starts at `from`, read for an address.
 pub record LineRead (input : Text) (from address : ℕ) (r : Read) : Type 0 where
-  pub no_form : parse (first_line (drop from input)) ≡ none → r.form ≡ false
-  pub is_form : (l : Line) → parse (first_line (drop from input)) ≡ some l → (r.form ≡ true) × Stands (line_given l address) r.op
+  pub no_form : parse (first_line (drop from input)) ≡ None → r.op ≡ None
+  pub is_form : (l : Line) → parse (first_line (drop from input)) ≡ Some l → (o : PipelineOp) × (r.op ≡ Some o) × Stands (line_given l address) o
   pub others : drop r.next input ≡ other_lines (drop from input)
   pub on : from < r.next
   pub most : r.next ≤ length input

@@ -3,4 +3,4 @@ use Rattle.config.proofs.Checks.{nothing-accepted}
 use Rattle.config.proofs.Machine.generic.Goals as goal
 
 pub machine-requires : goal.machine-requires
-machine-requires c = rw c.empty-d.ensures nothing-accepted
+machine-requires c = rw c.empty.ensures nothing-accepted

@@ -1,16 +1,21 @@
 -- With no flag set every flag is kept set, and `every` tells.
-use borrow.Author.Rules.{rules}
-use mathlib.Core.Path.{sym, ◌∙◌}
+use Rattle.std.proofs.Common.{rules, arith, ◌≡◌, sym, ◌∙◌, max, length}
 use Rattle.config.specs.View.{view_unit_spec}
+use Rattle.config.proofs.Classes.{none_listed}
 use Rattle.config.proofs.Specs.{kept-every, kept-flagged}
+use Rattle.config.proofs.UnitSpec.kept.Goals.{then-every, else-every}
 use Rattle.config.proofs.UnitSpec.kept.Goals as goal
 
-pub overflow_cast-capacity : goal.overflow_cast-capacity
+pub overflow_cast-result : goal.overflow_cast-result
 unfolding view_unit_spec
-overflow_cast-capacity c = let h = c.requires.most in search rules
+overflow_cast-result c = let h = c.requires.most in search rules
 
-pub returns-then-lists_none : goal.returns-then-lists_none
-returns-then-lists_none c = kept-every c.args.self c.requires (search rules) c.instances_of-capacity.ensures (sym c.lists_none.ensures ∙ c.if-lists_none.true)
-
-pub returns-else-lists_none : goal.returns-else-lists_none
-returns-else-lists_none c = kept-flagged c.args.self c.requires (search rules) c.instances_of-capacity.ensures (search rules) (sym c.lists_none.ensures ∙ c.if-lists_none.false)
+pub returns : goal.returns
+returns c =
+    let u = c.args.self.now in
+    let flags : length u.classes ≡ 10 = search rules in
+    let n : c.max.result ≡ max 1 u.capacity = omega arith in
+    elim c.if-every.branch [
+      | then-every w ↦ rw (w.result-is, w.if-every.true) (kept-every u c.requires n (sym (none_listed u.classes flags) ∙ sym c.lists_none-every.ensures ∙ w.if-every.true))
+      | else-every w ↦ rw (w.result-is, w.if-every.false) (kept-flagged u c.requires n flags (sym (none_listed u.classes flags) ∙ sym c.lists_none-every.ensures ∙ w.if-every.false))
+    ]

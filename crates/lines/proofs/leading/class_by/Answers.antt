@@ -1,5 +1,5 @@
--- The letter's place is the number of its class.
-use mathlib.Core.Path.{sym, ap, ◌∙◌}
+-- The place among the letters is the number of the class.
+use Rattle.std.proofs.Common.{ap, sym, ◌∙◌}
 use Rattle.capability.specs.Cases.{class_of}
 use Rattle.model.specs.Forecast.{letters}
 use Rattle.lines.proofs.Cut.{cut-place}
@@ -8,4 +8,4 @@ use Rattle.lines.proofs.leading.class_by.Goals as goal
 
 pub returns : goal.returns
 unfolding class_of letters
-returns c = c.class_of.ensures ∙ ap class_of (cut-place c.place_of-n.ensures) ∙ sym (class-place letters _)
+returns c = c.ok.ensures.value ∙ c.try_from.ensures ∙ ap class_of (cut-place c.place_of-n.ensures) ∙ sym (class-place letters _)
