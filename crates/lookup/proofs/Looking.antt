@@ -1,69 +1,97 @@
 -- Names in lent arrays: read by place, searched, and the operation that they resolve.
+use Rattle.op.specs.declared.chars.Chars.{Chars}
 use Prim.Native.Nat.{ℕ, zero, suc, ◌+◌, ◌≤◌, ◌<◌}
 use mathlib.Core.Path.{◌≡◌, refl, sym, subst, ap, ap₂, ◌∙◌}
 use mathlib.Core.Bool.{true, false}
 use mathlib.Core.List.{List, [], ◌∷◌, map}
 use native.Mathlib.Omega.{arith}
 use native.Mathlib.Numerals.{add-one}
+use native.Mathlib.Nat.{add-zero, zero-add}
+use Rattle.std.specs.Prelude.{Option, None, Some}
+use Rattle.laws.specs.Optional.{when_some}
+use Rattle.laws.proofs.Tests.{cond_yes, cond_no}
 use lib.Seq.{drop-nil}
 use lib.ListN.{length, length-set, get_or, set, take, drop}
 use Rattle.laws.specs.Texts.{Text, same}
-use Rattle.laws.proofs.Slices.{Seen, All-drop, view-next, view-length, slice-end}
+use Rattle.laws.proofs.Slices.{Seen, All-drop, view-next, slice-end}
 use Rattle.lent.proofs.Parts.{parts-size, part_at}
 use Rattle.runs.proofs.Names.{Apart, Distinct}
-use Rattle.model.specs.Registers.{interned, intern, numbered, intern_all, operands}
-use Rattle.op.specs.declared.Name.{Name}
+use Rattle.model.specs.Registers.{intern, get, numbered, intern_all}
 use Rattle.op.specs.declared.PipelineOp.{PipelineOp}
-use Rattle.op.specs.View.{view_name, view_op}
+use Rattle.op.specs.Chars.{view_text}
+use Rattle.op.specs.View.{view_op}
 use Rattle.registers.specs.declared.RegisterTable.{RegisterTable}
 use Rattle.registers.specs.View.{view_held, TableOk}
-use Rattle.registers.specs.Promises.{ResolvedTo}
-use Rattle.registers.proofs.Interning.{intern-here, intern-behind, names-held, same-yes}
+use Rattle.registers.specs.Promises.{Lists, ResolvedTo}
+use Rattle.registers.proofs.Interning.{intern-here, intern-behind, get-held, same-yes}
 use Rattle.registers.proofs.NameTable.{spare}
-use Rattle.registers.proofs.Resolving.{first-four, resolved-all}
-use Rattle.lookup.specs.Lookup.{name_of, names_of, NamesSized, first_names, bucket_of, hinted, resolved_by}
+use Rattle.registers.proofs.Resolving.{all-found}
+use Rattle.lookup.specs.Lookup.{name_of, names_of, NamesSized, first_names, bucket_of, hinted, FoundIn}
 
 module _ {bs : List (List ℕ)} {ls : List ℕ} (s : NamesSized bs ls) {held : ℕ} (few : held ≤ 256) where
   room : held ≤ length (names_of bs ls)
   room = omega (arith, few, parts-size name_of s)
 
-  pub name-next : {i : ℕ} → i < held → Seen (first_names bs ls held) held i (view_name (name_of (get_or bs i []) (get_or ls i 0)))
+  pub name-next : {i : ℕ} → i < held → Seen (first_names bs ls held) held i (view_text (name_of (get_or bs i []) (get_or ls i 0)))
   name-next {i} h =
-      subst (λ (x : Name). Seen (first_names bs ls held) held i (view_name x)) (sym (part_at name_of s [] 0 {i = i} (omega (arith, few, h)) refl spare))
-      (view-next view_name (names_of bs ls) spare room h)
-
-  -- k is where the search ended.
-  pub found_among : (a : Text) {k : ℕ} → k ≡ (intern (first_names bs ls held) a).number → k < held
-      → interned k (first_names bs ls held) ≡ intern (first_names bs ls held) a
-  found_among a found h =
-      ap₂ interned found (sym (names-held a (first_names bs ls held) (omega (arith, found, h, view-length view_name (names_of bs ls) room))))
+      subst (λ (x : Chars 16). Seen (first_names bs ls held) held i (view_text x)) (sym (part_at name_of s [] 0 {i = i} (omega (arith, few, h)) refl spare))
+      (view-next view_text (names_of bs ls) spare room h)
 
 pub names-end : (bs : List (List ℕ)) (ls : List ℕ) {held i : ℕ} → held ≤ i → drop i (first_names bs ls held) ≡ []
-names-end bs ls h = slice-end (map view_name (names_of bs ls)) h
+names-end bs ls h = slice-end (map view_text (names_of bs ls)) h
 
 -- The names of a table.
 pub table-names : (bs : List (List ℕ)) (ls : List ℕ) {held : ℕ} (t : RegisterTable) → names_of bs ls ≡ t.names → held ≡ t.held
     → first_names bs ls held ≡ view_held t
 unfolding view_held
-table-names bs ls t p q = ap₂ (λ (n : ℕ) (l : List Name). take n (map view_name l)) q p
+table-names bs ls t p q = ap₂ (λ (n : ℕ) (l : List (Chars 16)). take n (map view_text l)) q p
 
 -- All of the operation's names are there.
-pub looked : {ns : List Text} (o : PipelineOp) (rs d : List ℕ) {t : RegisterTable} → ns ≡ view_held t → TableOk t
-    → numbered (take o.sources_len rs) ns ≡ intern_all ns (view_op o).info.sources
-    → numbered (take o.writes_len d) ns ≡ intern_all ns (view_op o).info.writes → length rs ≡ 8 → length d ≡ 8
-    → o.sources_len ≤ 8 → o.writes_len ≤ 4
-    → ResolvedTo t (view_op o).info
-    (resolved_by (record { all = true; sources = rs; destinations = get_or d 0 0 ∷ get_or d 1 0 ∷ get_or d 2 0 ∷ get_or d 3 0 ∷ [] }) o t)
-looked {ns} o rs d {t} e ok p q n m few fewer =
-    resolved-all (view_op o).info {u = t} {ns = view_held t} {rs = take o.sources_len rs} {ws = take o.writes_len d}
-    (subst (λ l. numbered (take o.sources_len rs) l ≡ intern_all l (view_op o).info.sources) e p)
-    (subst (λ l. numbered (take o.writes_len d) l ≡ intern_all l (view_op o).info.writes) e q) refl ok
-    (record {
-      fits = refl;
-      is = ap (λ l. operands (take o.sources_len rs) l (view_held t)) (first-four d o.writes_len (omega (arith, m)) fewer);
-      same = refl;
-      numbers = record { sources = few; sources_size = n; destinations = fewer; destinations_size = refl };
-    })
+pub looked : {ns : List Text} (o : PipelineOp) {rs ws : List ℕ} {reads writes : List (Chars 16)} {t : RegisterTable} → ns ≡ view_held t → TableOk t
+    → Lists 8 o.sources_len (view_op o).info.sources reads → Lists 4 o.writes_len (view_op o).info.writes writes
+    → FoundIn ns 8 (map view_text reads) (Some rs) → FoundIn ns 4 (map view_text writes) (Some ws)
+    → ResolvedTo t (view_op o).info t (Some (record { sources = rs; destinations = ws; sources_len = o.sources_len; destinations_len = o.writes_len }))
+looked {ns} o {rs} {ws} {reads} {writes} {t} e ok p q a b =
+    all-found (view_op o).info ok p q
+    (record { is = subst (λ l. (ks : List ℕ) → Some rs ≡ Some ks → numbered (take (length (map view_text reads)) ks) l ≡ intern_all l (map view_text reads)) e a.is; size = a.size })
+    (record { is = subst (λ l. (ks : List ℕ) → Some ws ≡ Some ks → numbered (take (length (map view_text writes)) ks) l ≡ intern_all l (map view_text writes)) e b.is; size = b.size })
+
+-- ── The search ──────────────────────────────────────────────────────────────
+
+-- The number that a gets, with i names passed.
+abbrev pub get-from : List Text → Text → ℕ → Option ℕ
+get-from ns a i = when_some (get (drop i ns) a) None (λ (n : ℕ). Some (n + i))
+
+pub from-first : (ns : List Text) (a : Text) → get-from ns a 0 ≡ get ns a
+from-first ns a = same-value (get ns a)
+  where
+    same-value : (o : Option ℕ) → when_some o None (λ (n : ℕ). Some (n + 0)) ≡ o
+    same-value None = refl
+    same-value (Some n) = ap Some (add-zero n)
+
+module _ {ns : List Text} (a : Text) {n i : ℕ} {x : Text} (s : Seen ns n i x) where
+  pub from-hit : same x a ≡ true → get-from ns a i ≡ Some i
+  unfolding get
+  from-hit e = ap (λ l. when_some (get l a) None (λ (m : ℕ). Some (m + i))) s.is ∙ ap (λ o. when_some o None (λ (m : ℕ). Some (m + i))) (cond_yes _ _ e) ∙ ap Some (zero-add i)
+
+  pub from-miss : same x a ≡ false → get-from ns a i ≡ get-from ns a (i + 1)
+  unfolding get
+  from-miss e =
+      ap (λ l. when_some (get l a) None (λ (m : ℕ). Some (m + i))) s.is
+      ∙ ap (λ o. when_some o None (λ (m : ℕ). Some (m + i))) (cond_no _ _ e)
+      ∙ one-more (get (drop (i + 1) ns) a)
+    where
+      one-more : (o : Option ℕ) → when_some (when_some o None (λ (m : ℕ). Some (suc m))) None (λ (m : ℕ). Some (m + i)) ≡ when_some o None (λ (m : ℕ). Some (m + (i + 1)))
+      one-more None = refl
+      one-more (Some m) = ap Some (let z : suc m + i ≡ m + (i + 1) = omega arith in z)
+
+pub from-end : (ns : List Text) (a : Text) (i : ℕ) → drop i ns ≡ [] → get-from ns a i ≡ None
+unfolding get
+from-end ns a i d = ap (λ l. when_some (get l a) None (λ (m : ℕ). Some (m + i))) d
+
+-- A name's own place is its number.
+pub get-at : (ns : List Text) (a : Text) {k : ℕ} → k ≡ (intern ns a).number → k < length ns → Some k ≡ get ns a
+get-at ns a e h = ap Some e ∙ sym (get-held a ns (omega (arith, e, h)))
 
 -- ── Hints ───────────────────────────────────────────────────────────────────
 
@@ -91,7 +119,7 @@ pub hinting-first : {bs : List (List ℕ)} {ls : List ℕ} {held : ℕ} {hs : Li
 unfolding hinted
 hinting-first = record { within = omega arith; is = refl }
 
-pub hints-size : (ns : List Name) (n : ℕ) (hs : List ℕ) → length (hinted ns n hs) ≡ length hs
+pub hints-size : (ns : List (Chars 16)) (n : ℕ) (hs : List ℕ) → length (hinted ns n hs) ≡ length hs
 unfolding hinted
 hints-size ns zero hs = refl
 hints-size ns (suc n) hs = length-set (hinted ns n hs) (bucket_of (get_or ns n spare)) n ∙ hints-size ns n hs

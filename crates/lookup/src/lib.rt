@@ -1,64 +1,42 @@
 // The numbers of an operation's registers, looked up among a table's names in lent arrays: a row of 16 bytes a name, its count beside the rows.
 #![tactic(auto)]
 
-ghost use Rattle.std.specs.Prelude.{◌≡◌, false, map, ◌≤◌, ◌<◌, length};
+ghost use Rattle.std.specs.Prelude.{◌≡◌, map, ◌≤◌, ◌<◌, length};
 ghost use Rattle.runs.proofs.Names.{Distinct};
-ghost use Rattle.model.specs.Registers.{intern};
-ghost use Rattle.op.specs.View.{view_name};
+ghost use Rattle.model.specs.Registers.{get};
+ghost use Rattle.op.specs.Chars.{view_text};
 ghost use Rattle.lookup.specs.Lookup.{names_of, first_names, mixed, bucket_of, hinted, NamesSized, NamesHeld, FoundIn, LookedTo};
 
-use op::{Name, PipelineOp, widened};
-use registers::RegisterTable;
-
-// The numbers of a list of names, where all are there.
-#[derive(Drop)]
-struct Found {
-    numbers: [u8; 8],
-    all: bool,
-}
-
-// The numbers of an operation's reads and writes, where all its names are there.
-#[derive(Drop)]
-pub struct Looked {
-    pub all: bool,
-    pub sources: [u8; 8],
-    pub destinations: [u8; 4],
-}
+use op::{Name, PipelineOp};
+use registers::{Operands, first};
 
 // The rows take up a table's names.
-pub fn spread(table: RegisterTable, bs: &mut [[u8; 16]], ls: &mut [u8])
+pub fn spread(names: &[Name; 256], bs: &mut [[u8; 16]], ls: &mut [u8])
     requires { NamesSized bs.old ls.old }
-    ensures { NamesHeld bs.new ls.new table.names }
+    ensures { NamesHeld bs.new ls.new names.now }
 {
-    let mut at: usize = 0;
-    while at < 256 {
-        let x = table.names[at];
-        let b = x.bytes;
-        bs[at] = b;
-        ls[at] = x.len;
-        at += 1;
+    for (at, name) in names.iter().enumerate() {
+        bs[at] = name.bytes;
+        ls[at] = name.len;
     }
 }
 
-// The number of a name, or `held` where it is not there.
-fn find_in(bs: &[[u8; 16]], ls: &[u8], held: usize, name: Name) -> usize
+// The number of a name, where it is there.
+fn find_in(bs: &[[u8; 16]], ls: &[u8], held: usize, name: Name) -> Option<u8>
     requires names_sized { NamesSized bs.now ls.now }
     requires held_bound { held ≤ 256 }
-    ensures { result ≡ (intern (first_names bs.now ls.now held) (view_name name)).number }
+    ensures { result ≡ get (first_names bs.now ls.now held) (view_text name) }
 {
-    let mut i: usize = 0;
-    while i < held {
-        let b = bs[i];
+    for i in 0..held {
         let x = Name {
-            bytes: b,
+            bytes: bs[i],
             len: ls[i],
         };
-        if x.same(name) {
-            return i;
+        if x == name {
+            return Some(i as u8);
         }
-        i += 1;
     }
-    i
+    None
 }
 
 // A hash of five bytes.
@@ -89,109 +67,76 @@ pub fn hint(bs: &[[u8; 16]], ls: &[u8], held: usize, hs: &mut [u8])
     requires hs_len { length hs.old ≡ 1024 }
     ensures { hs.new ≡ hinted (names_of bs.now ls.now) held hs.old }
 {
-    let mut i: usize = 0;
-    while i < held {
-        let b = bs[i];
+    for i in 0..held {
         let x = Name {
-            bytes: b,
+            bytes: bs[i],
             len: ls[i],
         };
         hs[bucket(x)] = i as u8;
-        i += 1;
     }
 }
 
-// The number of a name, or `held` where it is not there: that of its bucket's hint, if it is the name's, or else by a search. A hint may be any number.
-fn find_by(bs: &[[u8; 16]], ls: &[u8], hs: &[u8], held: usize, name: Name) -> usize
+// The number of a name, where it is there: that of its bucket's hint, if it is the name's, or else by a search. A hint may be any number.
+fn find_by(bs: &[[u8; 16]], ls: &[u8], hs: &[u8], held: usize, name: Name) -> Option<u8>
     requires names_sized { NamesSized bs.now ls.now }
     requires hs_len { length hs.now ≡ 1024 }
     requires held_bound { held ≤ 256 }
     requires distinct { Distinct (first_names bs.now ls.now held) }
-    ensures { result ≡ (intern (first_names bs.now ls.now held) (view_name name)).number }
+    ensures { result ≡ get (first_names bs.now ls.now held) (view_text name) }
 {
-    let h = hs[bucket(name)] as usize;
+    let hint = hs[bucket(name)];
+    let h = hint as usize;
     if h < held {
-        let b = bs[h];
         let x = Name {
-            bytes: b,
+            bytes: bs[h],
             len: ls[h],
         };
-        if x.same(name) {
-            return h;
+        if x == name {
+            return Some(hint);
         }
     }
     find_in(bs, ls, held, name)
 }
 
-// The numbers of the first n names of a list.
-fn find_all_in(bs: &[[u8; 16]], ls: &[u8], hs: &[u8], held: usize, list: [Name; 8], n: u8) -> Found
+// The numbers of a list of names, where all are there.
+fn find_all_in<const N: usize>(
+    bs: &[[u8; 16]],
+    ls: &[u8],
+    hs: &[u8],
+    held: usize,
+    names: &[Name],
+) -> Option<[u8; N]>
     requires names_sized { NamesSized bs.now ls.now }
     requires hs_len { length hs.now ≡ 1024 }
     requires held_bound { held ≤ 256 }
     requires distinct { Distinct (first_names bs.now ls.now held) }
-    requires n_bound { n ≤ 8 }
-    ensures { FoundIn (first_names bs.now ls.now held) n (map view_name list) result }
+    requires few { length names.now ≤ N }
+    ensures { FoundIn (first_names bs.now ls.now held) N (map view_text names.now) result }
 {
-    let mut numbers = [0u8; 8];
-    let end = n as usize;
-    let mut i: usize = 0;
-    while i < end {
-        let name = list[i];
-        let k = find_by(bs, ls, hs, held, name);
-        if held <= k {
-            return Found {
-                numbers,
-                all: false,
-            };
-        }
-        numbers[i] = k as u8;
-        i += 1;
+    let mut numbers = [0; N];
+    for (i, name) in names.iter().enumerate() {
+        numbers[i] = find_by(bs, ls, hs, held, *name)?;
     }
-    Found { numbers, all: true }
+    Some(numbers)
 }
 
-// Not all are there.
-fn not_all() -> Looked
-    ensures { result.all ≡ false }
-{
-    Looked {
-        all: false,
-        sources: [0; 8],
-        destinations: [0; 4],
-    }
-}
-
-// The numbers of an operation's registers; not all, where it has more than 8 reads or 4 writes.
-pub fn look(bs: &[[u8; 16]], ls: &[u8], hs: &[u8], held: usize, op: PipelineOp) -> Looked
+// The numbers of an operation's registers, where all its names are there; none, where it has more than 8 reads or 4 writes.
+pub fn look(bs: &[[u8; 16]], ls: &[u8], hs: &[u8], held: usize, op: &PipelineOp) -> Option<Operands>
     requires names_sized { NamesSized bs.now ls.now }
     requires hs_len { length hs.now ≡ 1024 }
     requires held_bound { held ≤ 256 }
     requires distinct { Distinct (first_names bs.now ls.now held) }
-    ensures { LookedTo bs.now ls.now held op result }
+    ensures { LookedTo bs.now ls.now held op.now result }
 {
-    let n = op.sources_len;
-    let m = op.writes_len;
-    if 8 < n {
-        return not_all();
+    if op.sources_len > 8 || op.writes_len > 4 {
+        return None;
     }
-    if 4 < m {
-        return not_all();
-    }
-    let reads = op.sources;
-    let own = op.writes;
-    let r = find_all_in(bs, ls, hs, held, reads, n);
-    if !r.all {
-        return not_all();
-    }
-    let w = find_all_in(bs, ls, hs, held, widened(own), m);
-    if !w.all {
-        return not_all();
-    }
-    let sources = r.numbers;
-    let d = w.numbers;
-    Looked {
-        all: true,
-        sources,
-        destinations: [d[0], d[1], d[2], d[3]],
-    }
+    let reads = first(&op.sources, op.sources_len);
+    let writes = first(&op.writes, op.writes_len);
+    Some(Operands {
+        sources: find_all_in(bs, ls, hs, held, reads)?,
+        destinations: find_all_in(bs, ls, hs, held, writes)?,
+        sources_len: op.sources_len,
+        destinations_len: op.writes_len,
+    })
 }

@@ -3,7 +3,7 @@ use Prim.Native.Nat.{ℕ, suc, ◌≤◌, ◌<◌, max}
 use mathlib.Core.Path.{◌≡◌, refl, sym, subst, ap, ◌∙◌}
 use mathlib.Core.Bool.{true, false}
 use mathlib.Core.Logic.{⊎_elim}
-use mathlib.Core.Option.{none, some}
+use Rattle.std.specs.Prelude.{None, Some}
 use mathlib.Core.List.{List, [], ◌∷◌, ◌++◌}
 use native.Mathlib.Omega.{arith}
 use native.Mathlib.Nat.{not-suc-le-zero, le_of_suc-le-suc}
@@ -37,11 +37,11 @@ module _ (a x : Text) (xs : List Text) where
   unfolding intern
   intern-behind e = cond_no _ _ e
 
-  get-here : same x a ≡ true → get (x ∷ xs) a ≡ some 0
+  get-here : same x a ≡ true → get (x ∷ xs) a ≡ Some 0
   unfolding get
   get-here e = cond_yes _ _ e
 
-  get-behind : same x a ≡ false → get (x ∷ xs) a ≡ when_some (get xs a) none (λ (n : ℕ). some (suc n))
+  get-behind : same x a ≡ false → get (x ∷ xs) a ≡ when_some (get xs a) None (λ (n : ℕ). Some (suc n))
   unfolding get
   get-behind e = cond_no _ _ e
 
@@ -75,19 +75,19 @@ module _ (a : Text) where
       (λ f h. ap (λ t. x ∷ t) (names-new xs (le_of_suc-le-suc h)))
 
   -- RegisterTable::get finds the place that interning gives.
-  pub get-held : (ns : List Text) → (intern ns a).number < length ns → get ns a ≡ some (intern ns a).number
+  pub get-held : (ns : List Text) → (intern ns a).number < length ns → get ns a ≡ Some (intern ns a).number
   unfolding intern
   get-held [] = λ h. absurd (not-suc-le-zero h)
   get-held (x ∷ xs) =
-      by_first (λ r. r.number < suc (length xs) → get (x ∷ xs) a ≡ some r.number) x xs (λ t h. get-here a x xs t)
-      (λ f h. get-behind a x xs f ∙ ap (λ o. when_some o none (λ (n : ℕ). some (suc n))) (get-held xs (le_of_suc-le-suc h)))
+      by_first (λ r. r.number < suc (length xs) → get (x ∷ xs) a ≡ Some r.number) x xs (λ t h. get-here a x xs t)
+      (λ f h. get-behind a x xs f ∙ ap (λ o. when_some o None (λ (n : ℕ). Some (suc n))) (get-held xs (le_of_suc-le-suc h)))
 
-  pub get-new : (ns : List Text) → length ns ≤ (intern ns a).number → get ns a ≡ none
+  pub get-new : (ns : List Text) → length ns ≤ (intern ns a).number → get ns a ≡ None
   unfolding intern get
   get-new [] = λ h. refl
   get-new (x ∷ xs) =
-      by_first (λ r. suc (length xs) ≤ r.number → get (x ∷ xs) a ≡ none) x xs (λ t h. absurd (not-suc-le-zero h))
-      (λ f h. get-behind a x xs f ∙ ap (λ o. when_some o none (λ (n : ℕ). some (suc n))) (get-new xs (le_of_suc-le-suc h)))
+      by_first (λ r. suc (length xs) ≤ r.number → get (x ∷ xs) a ≡ None) x xs (λ t h. absurd (not-suc-le-zero h))
+      (λ f h. get-behind a x xs f ∙ ap (λ o. when_some o None (λ (n : ℕ). Some (suc n))) (get-new xs (le_of_suc-le-suc h)))
 
   -- So many names there are then.
   pub intern-length : (ns : List Text) → length (intern ns a).names ≡ max (length ns) (suc (intern ns a).number)
@@ -173,7 +173,7 @@ all-stays ns (b ∷ bs) ls p =
 
 pub all-distinct : (ns bs : List Text) → Distinct ns → Distinct (intern_all ns bs).names
 unfolding registers
-all-distinct ns bs d = resolve-distinct ns (info_of [] none none bs [] 0) d
+all-distinct ns bs d = resolve-distinct ns (info_of [] None None bs [] 0) d
 
 pub intern-distinct : (ns : List Text) (a : Text) → Distinct ns → Distinct (intern ns a).names
 unfolding registers

@@ -1,5 +1,6 @@
 -- Numbers given at fetch are those of the look.
-use Prim.Native.Nat.{ℕ, suc, ◌≤◌, ◌<◌, max}
+use Prim.Native.Nat.{ℕ, suc, ◌+◌, ◌≤◌, ◌<◌, max}
+use Rattle.std.specs.Prelude.{fold}
 use mathlib.Core.Path.{◌≡◌, refl, sym, ap, ap₂, ◌∙◌}
 use mathlib.Core.List.{List, [], ◌∷◌, ◌++◌, map, append_assoc, append-nil}
 use native.Mathlib.Omega.{arith}
@@ -52,19 +53,13 @@ looks-right ns bs cs held ks f = record { numbers = given; names = after; rest =
     repeat : intern_all ms bs ≡ numbered ks ms
     repeat = all-stays ns bs ms (begins-self ms) ∙ ap (λ l. numbered l ms) given
 
--- The loop for `through`: m is the most so far, t the next.
-pub through-next : (m k : ℕ) {t : ℕ} → t ≡ max m (suc k) → (ks : List ℕ) → max m (through (k ∷ ks)) ≡ max t (through ks)
+fold-through : (m : ℕ) (ks : List ℕ) → fold (λ n k. max n (k + 1)) m ks ≡ max m (through ks)
 unfolding through
-through-next m k e ks = omega arith
+fold-through m [] = omega arith
+fold-through m (k ∷ ks) = omega (arith, fold-through (max m (k + 1)) ks)
 
-pub through-end : (m : ℕ) → max m (through []) ≡ m
-unfolding through
-through-end m = omega arith
-
-pub through-append : (ks ls : List ℕ) → through (ks ++ ls) ≡ max (through ks) (through ls)
-unfolding through
-through-append [] ls = omega arith
-through-append (k ∷ ks) ls = omega (arith, through-append ks ls)
+pub through_fold : (ks : List ℕ) → through ks ≡ fold (λ n k. max n (k + 1)) 0 ks
+through_fold ks = omega (arith, fold-through 0 ks)
 
 -- ── A look at an operation ────────────────────────────────────────────────────
 

@@ -1,96 +1,89 @@
 -- The table of names: read at a place, and with one name more.
+use Rattle.op.specs.declared.chars.Chars.{Chars}
 use Prim.Native.Nat.{ℕ, zero, suc, ◌+◌, ◌≤◌, ◌<◌, min}
 use mathlib.Core.Path.{◌≡◌, refl, sym, subst, ap, ap₂, ◌∙◌}
-use mathlib.Core.Bool.{true, false}
+use mathlib.Core.Bool.{Bool, true, false, cond}
 use mathlib.Core.Logic.{⊎_elim}
-use mathlib.Core.Option.{none, some}
+use Rattle.std.specs.Prelude.{Option, None, Some, slice_get}
+use Rattle.std.specs.List.{position_from}
 use mathlib.Core.List.{List, [], ◌∷◌, ◌++◌, map}
 use native.Mathlib.Omega.{arith}
-use native.Mathlib.Nat.{add-zero}
-use lib.Dec.{T, lit≤}
-use lib.ListN.{length, get_or, take, drop, set, replicate, length-set, length-take, length-replicate}
+use native.Mathlib.Numerals.{add-one}
+use lib.Dec.{lit≤}
+use lib.ListN.{length, get_or, take, set, replicate, length-set, length-take, length-replicate, length-append}
 use lib.Seq.{take-take, take-set-le}
 use borrow.Author.Tests.{lt-ltb, le-ltb}
 use Rattle.laws.specs.Means.{Means}
-use Rattle.laws.specs.Optional.{value_or}
-use Rattle.laws.specs.Lists.{nth}
+use Rattle.laws.specs.Optional.{value_or, when_some}
 use Rattle.laws.specs.Texts.{Text, same, bytes}
-use Rattle.laws.proofs.Tests.{lt-or-ge}
-use Rattle.laws.proofs.Slices.{Seen, seen-nth, view-next, view-length, slice-end, map-set, nth-take, nth_end, All-get_or, All-set, All-take, All-replicate}
+use Rattle.laws.proofs.Tests.{lt-or-ge, not_yes, not-no}
+use Rattle.laws.proofs.Choices.{none-some, some_inj}
+use Rattle.laws.proofs.Slices.{seen-nth, view-next, view-length, map-set, nth-take, nth_end, All-get_or, All-set, All-take, All-replicate}
 use Rattle.laws.proofs.Shift.{view-pushed}
 use Rattle.model.specs.Registers.{interned, intern, get, name_of}
 use Rattle.runs.proofs.Names.{Distinct}
-use Rattle.op.specs.declared.Name.{Name}
-use Rattle.op.specs.View.{view_name}
+use Rattle.op.specs.Chars.{view_text}
 use Rattle.op.proofs.Firsts.{take-least}
 use Rattle.op.proofs.Texts.{shown-long, shown-short}
 use Rattle.registers.specs.declared.RegisterTable.{RegisterTable}
 use Rattle.registers.specs.View.{view_known, view_held, table_of, view_table, NameOk, TableOk}
 use Rattle.registers.specs.Promises.{InternedTo}
-use Rattle.registers.proofs.Interning.{intern-here, intern-behind, number-most, names-held, names-new, get-held, get-new, intern-length, intern-distinct}
+use Rattle.registers.proofs.Interning.{number-most, names-held, names-new, get-held, get-new, intern-distinct}
 
 -- What a read past the end would give.
-abbrev pub spare : Name
+abbrev pub spare : (Chars 16)
 spare = record { bytes = []; len = 0 }
 
 -- The count of a name within its limits, and back.
-module _ (x : Name) where
+module _ (x : Chars 16) where
   pub name-count : NameOk x → x.len ≤ 16
-  unfolding view_name
+  unfolding view_text
   name-count ok =
       ⊎_elim (λ h. absurd (let z : ⊥ = omega (arith, ok, ap length (shown-long 16 x.len x.bytes h), length-replicate {A = ℕ} x.len 0) in z)) (λ h. h)
       (lt-or-ge 16 x.len)
 
   pub name-ok : x.len ≤ 16 → NameOk x
-  unfolding view_name
+  unfolding view_text
   name-ok h = rw (shown-short 16 x.len x.bytes h, length-take) (omega arith)
 
 module _ {t : RegisterTable} (ok : TableOk t) where
   room : t.held ≤ length t.names
   room = omega (arith, ok.size, ok.held)
 
-  pub held_next : {i : ℕ} → i < t.held → Seen (view_held t) t.held i (view_name (get_or t.names i spare))
-  unfolding view_held
-  held_next h = view-next view_name t.names spare room h
-
   pub held-read : {i : ℕ} → i < t.held → NameOk (get_or t.names i spare)
   held-read h = All-get_or NameOk t.names spare ok.each (omega (arith, room))
 
   pub held-length : length (view_held t) ≡ t.held
   unfolding view_held
-  held-length = view-length view_name t.names room
+  held-length = view-length view_text t.names room
 
   pub table-most : (ms : List Text) → view_held t ≡ ms → length ms ≤ 256
   table-most ms e = omega (arith, ap length e, held-length, ok.held)
 
   pub known-length : length (view_known t) ≡ t.known
   unfolding view_known
-  known-length = view-length view_name t.names (omega (arith, room, ok.known))
+  known-length = view-length view_text t.names (omega (arith, room, ok.known))
 
   -- The names known are the first of those held.
   pub known-held : view_known t ≡ take t.known (view_held t)
   unfolding view_known view_held
-  known-held = sym (take-take t.known t.held (map view_name t.names) ok.known)
+  known-held = sym (take-take t.known t.held (map view_text t.names) ok.known)
 
   -- A register that is known has one name in both.
   pub name-known : {r : ℕ} → r < t.known → name_of (view_known t) r ≡ name_of (view_held t) r
   unfolding name_of
-  name-known {r} h = ap (value_or (bytes "?")) (ap (λ l. nth l r) known-held ∙ nth-take (view_held t) h)
+  name-known {r} h = ap (value_or (bytes "?")) (ap (λ l. slice_get l r) known-held ∙ nth-take (view_held t) h)
 
-  pub named : {r : ℕ} → r < t.held → Means view_name NameOk (get_or t.names r spare) (name_of (view_held t) r)
-  unfolding name_of
-  named h = record { is = sym (ap (value_or (bytes "?")) (seen-nth (held_next h))); ok = held-read h }
+  pub named : {r : ℕ} → r < t.held → Means view_text NameOk (get_or t.names r spare) (name_of (view_held t) r)
+  unfolding name_of view_held
+  named h = record { is = sym (ap (value_or (bytes "?")) (seen-nth (view-next view_text t.names spare room h))); ok = held-read h }
 
-  pub unnamed : {r : ℕ} {x : Name} → t.held ≤ r → view_name x ≡ bytes "?" → Means view_name NameOk x (name_of (view_held t) r)
+  pub unnamed : {r : ℕ} {x : Chars 16} → t.held ≤ r → view_text x ≡ bytes "?" → Means view_text NameOk x (name_of (view_held t) r)
   unfolding name_of bytes
   unnamed h e = record { is = e ∙ sym (ap (value_or (bytes "?")) (nth_end (view_held t) (omega (arith, held-length)))); ok = rw e (lit≤ tt) }
 
-pub held-end : (t : RegisterTable) {i : ℕ} → t.held ≤ i → drop i (view_held t) ≡ []
-unfolding view_held
-held-end t h = slice-end (map view_name t.names) h
-
 -- No name yet.
-pub empty-table : (x : Name) → view_name x ≡ [] → Means view_table TableOk (record { names = replicate 256 x; known = 0; held = 0 }) (table_of [] [])
+pub empty-table : (x : Chars 16) → view_text x ≡ [] → Means view_table TableOk (record { names = replicate 256 x; known = 0; held = 0 }) (table_of [] [])
 unfolding view_known view_held
 empty-table x e =
     record {
@@ -100,90 +93,96 @@ empty-table x e =
 
 -- ── The search ────────────────────────────────────────────────────────────────
 
--- The number that a gets, with i names passed.
-abbrev pub finding : Text → ℕ → List Text → ℕ
-finding a i xs = i + (intern xs a).number
+abbrev one_more : Option ℕ → Option ℕ
+one_more o = when_some o None (λ (k : ℕ). Some (suc k))
 
-module _ (a x : Text) (i : ℕ) where
-  pub find-hit : same x a ≡ true → (xs : List Text) → finding a i (x ∷ xs) ≡ i
-  find-hit e xs = ap (λ r. i + r.number) (intern-here a x xs e) ∙ add-zero i
+more-here : (b : Bool) (i : ℕ) (o p : Option ℕ) → o ≡ one_more p → cond b (Some (i + 1)) o ≡ one_more (cond b (Some i) p)
+more-here true i o p e = ap Some (add-one i)
+more-here false i o p e = e
 
-  pub find-miss : same x a ≡ false → (xs : List Text) → finding a i (x ∷ xs) ≡ finding a (i + 1) xs
-  find-miss e xs = ap (λ r. i + r.number) (intern-behind a x xs e) ∙ omega arith
+position-more : (p : Chars 16 → Bool) (i : ℕ) (l : List (Chars 16)) → position_from p (i + 1) l ≡ one_more (position_from p i l)
+position-more p i [] = refl
+position-more p i (x ∷ xs) = more-here (p x) i (position_from p (i + 1 + 1) xs) (position_from p (i + 1) xs) (position-more p (i + 1) xs)
 
-pub find-end : (a : Text) (i : ℕ) → finding a i [] ≡ i
-unfolding intern
-find-end a i = add-zero i
+-- As a search of the array.
+pub get_position : (a : Text) (n : ℕ) (l : List (Chars 16)) → get (take n (map view_text l)) a ≡ position_from (λ x. same (view_text x) a) 0 (take n l)
+unfolding get
+get_position a zero l = refl
+get_position a (suc n) [] = refl
+get_position a (suc n) (x ∷ xs) =
+    ap (λ o. cond (same (view_text x) a) (Some 0) (one_more o)) (get_position a n xs)
+    ∙ ap (λ o. cond (same (view_text x) a) (Some 0) o) (sym (position-more (λ y. same (view_text y) a) 0 (take n xs)))
 
--- k is where the search ended.
-module _ {t : RegisterTable} (ok : TableOk t) (a : Text) {k : ℕ} (found : k ≡ (intern (view_held t) a).number) where
-  pub found-held : k < t.held → interned k (view_held t) ≡ intern (view_held t) a
-  found-held h = ap₂ interned found (sym (names-held a (view_held t) (omega (arith, held-length ok))))
+module _ (ns : List Text) (a : Text) where
+  -- A name that is there.
+  pub get-some : {k : ℕ} → get ns a ≡ Some k → (k < length ns) × (interned k ns ≡ intern ns a)
+  get-some {k} e =
+      ⊎_elim
+      (λ h.
+      let q : k ≡ (intern ns a).number = some_inj k (intern ns a).number (sym e ∙ get-held a ns h) in
+      (omega (arith, h, q), ap₂ interned q (sym (names-held a ns h))))
+      (λ h. absurd (none-some k (sym (get-new a ns h) ∙ e))) (lt-or-ge (intern ns a).number (length ns))
 
-  pub get-some : k < t.held → some k ≡ get (view_held t) a
-  get-some h = ap some found ∙ sym (get-held a (view_held t) (omega (arith, held-length ok)))
-
-  pub get_none : t.held ≤ k → none ≡ get (view_held t) a
-  get_none h = sym (get-new a (view_held t) (omega (arith, held-length ok)))
+  -- A new one goes to the end.
+  pub get_none : get ns a ≡ None → intern ns a ≡ interned (length ns) (ns ++ a ∷ [])
+  get_none e =
+      ⊎_elim (λ h. absurd (none-some (intern ns a).number (sym e ∙ get-held a ns h)))
+      (λ h. let q : (intern ns a).number ≡ length ns = omega (arith, number-most a ns, h) in ap₂ interned q (names-new a ns h))
+      (lt-or-ge (intern ns a).number (length ns))
 
 -- ── One name more ─────────────────────────────────────────────────────────────
 
-abbrev pub put : RegisterTable → ℕ → Name → RegisterTable
-put t k x = record { names = set t.names k x; known = t.known; held = k + 1 }
+abbrev put : RegisterTable → Chars 16 → RegisterTable
+put t x = record { names = set t.names t.held x; known = t.known; held = t.held + 1 }
 
-module _ {t : RegisterTable} (ok : TableOk t) (x : Name) {k : ℕ} (found : k ≡ (intern (view_held t) (view_name x)).number) where
-  pub interned-held : k < t.held → InternedTo t (view_name x) (record { table = t; number = k; full = false })
-  interned-held h =
+module _ {t : RegisterTable} (ok : TableOk t) where
+  pub interned-held : (a : Text) {k : ℕ} → get (view_held t) a ≡ Some k → InternedTo t a t (Some k)
+  interned-held a {k} e =
+      let q = (get-some (view_held t) a e).1 in
       record {
-        full = sym (le-ltb 256 _ (table-most ok (intern (view_held t) (view_name x)).names (ap (λ r. r.names) (found-held ok (view_name x) found h))));
-        is = found-held ok (view_name x) found h;
-        same = λ q. absurd (subst T (sym q) tt);
+        fits = sym (not_yes (le-ltb 256 _ (table-most ok (intern (view_held t) a).names (ap (λ r. r.names) q))));
+        is = λ j p. rw (sym (some_inj k j p)) q;
+        same = λ p. refl;
         known = refl;
         ok = ok;
       }
 
-  more : t.held ≤ k → (intern (view_held t) (view_name x)).names ≡ view_held t ++ view_name x ∷ []
-  more h = names-new (view_name x) (view_held t) (omega (arith, held-length ok))
+  module _ (x : Chars 16) (e : get (view_held t) (view_text x) ≡ None) where
+    longer : length (intern (view_held t) (view_text x)).names ≡ t.held + 1
+    longer = ap (λ r. length r.names) (get_none (view_held t) (view_text x) e) ∙ length-append (view_held t) (view_text x ∷ []) ∙ ap (λ n. n + 1) (held-length ok)
 
-  longer : t.held ≤ k → length (intern (view_held t) (view_name x)).names ≡ k + 1
-  longer h = omega (arith, intern-length (view_name x) (view_held t), held-length ok)
+    pub interned-full : 256 ≤ t.held → InternedTo t (view_text x) t None
+    interned-full h =
+        record {
+          fits = sym (not-no (lt-ltb 256 (length (intern (view_held t) (view_text x)).names) (omega (arith, longer, h))));
+          is = λ j p. absurd (none-some j p);
+          same = λ p. refl;
+          known = refl;
+          ok = ok;
+        }
 
-  pub interned-full : t.held ≤ k → 256 ≤ k → InternedTo t (view_name x) (record { table = t; number = 0; full = true })
-  interned-full h p =
-      record {
-        full = sym (lt-ltb 256 (length (intern (view_held t) (view_name x)).names) (omega (arith, longer h)));
-        is = refl;
-        same = λ q. refl;
-        known = refl;
-        ok = ok;
-      }
-
-  pub interned-new : NameOk x → t.held ≤ k → k < 256 → InternedTo t (view_name x) (record { table = put t k x; number = k; full = false })
-  unfolding view_held view_known
-  interned-new fits h p =
-      record {
-        full = sym (le-ltb 256 (length (intern (view_held t) (view_name x)).names) (omega (arith, longer h)));
-        is = ap₂ interned found held;
-        same = λ q. absurd (subst T (sym q) tt);
-        known = ap (take t.known) (map-set view_name t.names k x) ∙ take-set-le t.known (map view_name t.names) k (view_name x) (omega (arith, ok.known));
-        ok =
-            record {
-              known = omega (arith, ok.known);
-              held = omega arith;
-              size = length-set t.names k x ∙ ok.size;
-              each = All-set NameOk t.names k x ok.each fits;
-              distinct = subst Distinct (sym held) (intern-distinct (view_held t) (view_name x) ok.distinct);
-            };
-      }
-    where
-      here : k ≡ t.held
-      here = omega (arith, number-most (view_name x) (view_held t), held-length ok)
-
-      held : view_held (put t k x) ≡ (intern (view_held t) (view_name x)).names
-      held =
-          view-pushed view_name t.names k x (omega (arith, ok.size))
-          ∙ ap (λ n. take n (map view_name t.names) ++ view_name x ∷ []) here
-          ∙ sym (more h)
+    pub interned-new : NameOk x → t.held < 256 → InternedTo t (view_text x) (put t x) (Some t.held)
+    unfolding view_held view_known
+    interned-new fits h =
+        record {
+          fits = sym (not_yes (le-ltb 256 (length (intern (view_held t) (view_text x)).names) (omega (arith, longer, h, ok.held))));
+          is = λ j p. ap₂ interned (sym (some_inj t.held j p)) held ∙ sym (get_none (view_held t) (view_text x) e ∙ ap (λ n. interned n (view_held t ++ view_text x ∷ [])) (held-length ok));
+          same = λ p. absurd (none-some t.held (sym p));
+          known = ap (take t.known) (map-set view_text t.names t.held x) ∙ take-set-le t.known (map view_text t.names) t.held (view_text x) ok.known;
+          ok =
+              record {
+                known = omega (arith, ok.known);
+                held = omega (arith, h, ok.held);
+                size = length-set t.names t.held x ∙ ok.size;
+                each = All-set NameOk t.names t.held x ok.each fits;
+                distinct =
+                    subst Distinct (ap (λ r. r.names) (get_none (view_held t) (view_text x) e) ∙ sym held)
+                    (intern-distinct (view_held t) (view_text x) ok.distinct);
+              };
+        }
+      where
+        held : view_held (put t x) ≡ view_held t ++ view_text x ∷ []
+        held = view-pushed view_text t.names t.held x (omega (arith, ok.size, ok.held, h))
 
 -- ── The counts ────────────────────────────────────────────────────────────────
 
@@ -201,7 +200,7 @@ module _ {t : RegisterTable} (ok : TableOk t) where
       record {
         is =
             ap (λ l. table_of l (view_held t))
-            (sym (take-take k t.held (map view_name t.names) (omega arith))
+            (sym (take-take k t.held (map view_text t.names) (omega arith))
             ∙ take-least (view_held t) n {k = k} (rw (held-length ok) e));
         ok = record { known = omega arith; held = ok.held; size = ok.size; each = ok.each; distinct = ok.distinct };
       }

@@ -1,22 +1,21 @@
 -- The table along a queue: what each of its methods leaves of the names known, the names held, and the numbers kept with queued operations.
 use Prim.Native.Nat.{ℕ, max}
 use mathlib.Core.Path.{◌≡◌, sym, subst, ap, ap₂, ◌∙◌}
-use mathlib.Core.Bool.{true, not}
-use mathlib.Core.Option.{Option}
+use mathlib.Core.Bool.{not}
+use Rattle.std.specs.Prelude.{Option, Some, is_some}
 use mathlib.Core.List.{List, [], ◌∷◌, ◌++◌, map}
 use lib.Dec.{ltb}
 use lib.ListN.{length, take, replicate, length-replicate}
 use Rattle.laws.specs.Means.{Means}
 use Rattle.laws.specs.Texts.{Text}
-use Rattle.laws.proofs.Tests.{cond_yes}
 use Rattle.model.specs.Op.{Info, Op}
 use Rattle.model.specs.State.{State}
 use Rattle.model.specs.Calls.{names_with}
 use Rattle.model.specs.Registers.{intern_all, resolve, pad}
 use Rattle.registers.specs.declared.RegisterTable.{RegisterTable}
-use Rattle.registers.specs.declared.Resolved.{Resolved}
-use Rattle.registers.specs.View.{view_known, view_held, table_of, view_table, TableOk}
-use Rattle.registers.specs.Promises.{view_resolved, ResolvedTo}
+use Rattle.registers.specs.declared.Operands.{Operands}
+use Rattle.registers.specs.View.{view_known, view_held, table_of, view_table, TableOk, view_operands}
+use Rattle.registers.specs.Promises.{ResolvedTo}
 use Rattle.registers.specs.Look.{through, Numbers, numbers_of, queue_names, Queued}
 use Rattle.registers.proofs.NameTable.{known-length}
 use Rattle.registers.proofs.Owing.{pad-length}
@@ -28,24 +27,24 @@ Along t q ks = Queued (view_known t) (view_held t) q ks
 
 module _ {t : RegisterTable} {q : List Info} {ks : List Numbers} (e : Along t q ks) where
   -- A fetch: it fits where the model counts at most 256 names, and then the queue has one operation more.
-  module _ {i : Info} {r : Resolved} (f : ResolvedTo t i r) where
-    pub fetch-fits : r.fits ≡ not (ltb 256 (length (intern_all (view_known t) (queue_names q ++ (i.sources ++ i.writes))).names))
+  module _ {i : Info} {u : RegisterTable} {r : Option Operands} (f : ResolvedTo t i u r) where
+    fetch-fits : is_some r ≡ not (ltb 256 (length (intern_all (view_known t) (queue_names q ++ (i.sources ++ i.writes))).names))
     fetch-fits =
         f.fits
         ∙ ap (λ l. not (ltb 256 (length l))) (sym (queue-laws.counted (view_known t) (view_held t) q ks (i.sources ++ i.writes) e))
 
     -- That is refusal 10, where the table knows the engine's names and q is its queue.
-    pub fetch-refused : (s : State) → view_known t ≡ s.names → q ≡ map (λ (o : Op). o.info) s.queue → r.fits ≡ not (ltb 256 (names_with s i))
+    pub fetch-refused : (s : State) → view_known t ≡ s.names → q ≡ map (λ (o : Op). o.info) s.queue → is_some r ≡ not (ltb 256 (names_with s i))
     unfolding names_with
     fetch-refused s known queue =
         fetch-fits
         ∙ ap₂ (λ ns l. not (ltb 256 (length (intern_all ns (l ++ (i.sources ++ i.writes))).names))) known
         (ap queue_names queue ∙ sym (queue_names-in s.queue))
 
-    pub fetch-queued : r.fits ≡ true → Along r.table (q ++ i ∷ []) (ks ++ numbers_of (view_resolved r) ∷ [])
-    fetch-queued h =
-        subst (λ ns. Queued ns (view_held r.table) (q ++ i ∷ []) (ks ++ numbers_of (view_resolved r) ∷ [])) (sym f.known)
-        (subst (λ o. Queued (view_known t) o.names (q ++ i ∷ []) (ks ++ numbers_of o ∷ [])) (sym (f.is ∙ cond_yes _ _ h))
+    pub fetch-queued : (x : Operands) → r ≡ Some x → Along u (q ++ i ∷ []) (ks ++ view_operands x ∷ [])
+    fetch-queued x h =
+        subst (λ ns. Queued ns (view_held u) (q ++ i ∷ []) (ks ++ view_operands x ∷ [])) (sym f.known)
+        (subst (λ o. Queued (view_known t) o.names (q ++ i ∷ []) (ks ++ numbers_of o ∷ [])) (sym (f.is x h))
         (queue-laws.fetched (view_known t) (view_held t) q ks i e))
 
 -- A flush, a halt or a fault: the queue is empty.

@@ -1,15 +1,13 @@
 -- Names stay distinct, and numbers are those of first use.
-use Rattle.std.specs.Prelude.{ℕ, ◌<◌, ◌≡◌, List, [], ◌∷◌, ◌++◌, length}
-use Rattle.std.proofs.Math.Option.{some}
-use Rattle.laws.specs.Lists.{nth}
+use Rattle.std.specs.Prelude.{ℕ, ◌<◌, ◌≡◌, List, [], ◌∷◌, ◌++◌, length, Some, slice_get}
 use Rattle.laws.specs.Texts.{Text}
 use Rattle.model.specs.Registers.{interned, intern, intern_all}
 use Rattle.runs.proofs.Names.{Distinct}
 
 -- a stands at place k, and at none before.
 pub record First (ns : List Text) (a : Text) (k : ℕ) : Type 0 where
-  pub here : nth ns k ≡ some a
-  pub before : (j : ℕ) → j < k → nth ns j ≡ some a → ⊥
+  pub here : slice_get ns k ≡ Some a
+  pub before : (j : ℕ) → j < k → slice_get ns j ≡ Some a → ⊥
 
 pub record FirstUse : Type 0 where
   pub distinct : (ns bs : List Text) → Distinct ns → Distinct (intern_all ns bs).names
@@ -18,4 +16,4 @@ pub record FirstUse : Type 0 where
   -- A name that is there keeps its number, and nothing changes.
   pub held : (ns : List Text) (a : Text) (k : ℕ) → First ns a k → intern ns a ≡ interned k ns
   -- A new name gets as its number how many there were.
-  pub new : (ns : List Text) (a : Text) → ((j : ℕ) → nth ns j ≡ some a → ⊥) → intern ns a ≡ interned (length ns) (ns ++ a ∷ [])
+  pub new : (ns : List Text) (a : Text) → ((j : ℕ) → slice_get ns j ≡ Some a → ⊥) → intern ns a ≡ interned (length ns) (ns ++ a ∷ [])

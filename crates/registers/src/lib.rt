@@ -3,12 +3,14 @@
 
 use op::Name;
 
+// The methods of Operands.
+mod numbers;
+// The methods of Claims and Waits.
+mod producers;
 // The methods of RegisterTable.
 mod table;
-// The methods of Claims.
-mod producers;
 
-pub use table::through;
+pub use table::first;
 
 // Names by number, in order of first fetch. The first `known` have been looked at; the first `held` also count those of queued operations.
 #[derive(Clone, Copy)]
@@ -18,59 +20,20 @@ pub struct RegisterTable {
     pub held: usize,
 }
 
-// The number of a register or of a unit, if there is one.
-#[derive(Drop)]
-pub enum MaybeIndex {
-    Some(u8),
-    Nothing,
-}
-
-// The table after a name was interned, and the name's number. Where a new name finds the table full: the table that came in, and 0.
-#[derive(Drop)]
-pub struct Interned {
-    pub table: RegisterTable,
-    pub number: u8,
-    pub full: bool,
-}
-
-// The numbers of a list of names, where the table holds them all.
-#[derive(Drop)]
-struct Found {
-    numbers: [u8; 8],
-    all: bool,
-}
-
-// The table after a list of names was interned, and their numbers.
-#[derive(Drop)]
-struct Numbered {
-    table: RegisterTable,
-    numbers: [u8; 8],
-    fits: bool,
-}
-
-// The table after an operation was resolved, and the numbers of its reads and writes. Where they do not fit: the table that came in, and no numbers.
-#[derive(Drop)]
-pub struct Resolved {
-    pub fits: bool,
-    pub table: RegisterTable,
+// An operation's registers by number: reads, then writes.
+#[derive(Clone, Copy)]
+pub struct Operands {
     pub sources: [u8; 8],
-    pub sources_len: u8,
     pub destinations: [u8; 4],
+    pub sources_len: u8,
     pub destinations_len: u8,
 }
 
-// For each register the unit that owes it its next value. 64 is nobody, as is any larger byte.
+// For each register the unit that owes it its next value.
 #[derive(Clone, Copy)]
 pub struct Claims {
-    pub unit: [u8; 256],
+    pub unit: [Option<u8>; 256],
     pub len: usize,
-}
-
-// The claims after a claim, and who held the register before.
-#[derive(Drop)]
-pub struct Claimed {
-    pub claims: Claims,
-    pub before: MaybeIndex,
 }
 
 // A register, and the unit that owes it.
@@ -78,12 +41,6 @@ pub struct Claimed {
 pub struct Owed {
     pub register: u8,
     pub unit: u8,
-}
-
-#[derive(Drop)]
-pub enum MaybeOwed {
-    Some(Owed),
-    Nothing,
 }
 
 // What an operation waits for.

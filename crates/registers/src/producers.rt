@@ -1,257 +1,183 @@
 // Claims: who owes each register its next value.
-ghost use Rattle.std.specs.Prelude.{◌≡◌, [], ◌∷◌, ◌++◌, map, ℕ, ◌≤◌, ◌<◌, length, take, replicate};
-ghost use Rattle.std.proofs.Math.Option.{Option, none};
-ghost use Rattle.laws.specs.Optional.{is_some};
-ghost use Rattle.laws.specs.Lists.{nth};
+ghost use Rattle.std.specs.Prelude.{◌≡◌, [], ◌∷◌, ◌++◌, map, ℕ, ◌≤◌, ◌<◌, length, take, replicate, slice_get, Option, option_map};
 ghost use Rattle.laws.specs.Means.{Means};
-ghost use Rattle.model.specs.Registers.{pad, producer_of, claim_all, release, release_all, outstanding};
+ghost use Rattle.model.specs.Registers.{pad, producer_of, claim, claim_all, release, release_all, outstanding};
 ghost use Rattle.model.specs.Issue.{taken, waits_on};
-ghost use Rattle.registers.specs.View.{view_maybe_index, claimed, view_claims, ClaimsOk, view_maybe_owed, view_waits, WaitsOk};
-ghost use Rattle.registers.specs.Promises.{ClaimedTo};
+ghost use Rattle.registers.specs.View.{view_claims, ClaimsOk, view_owed, view_waits, WaitsOk};
 
-use super::{Claimed, Claims, MaybeIndex, MaybeOwed, Owed, Waits};
-
-// Nobody owes the register.
-const NOBODY: u8 = 64;
-
-fn claimed_by(unit: u8) -> MaybeIndex
-    ensures { view_maybe_index result ≡ claimed unit }
-{
-    if unit < NOBODY {
-        MaybeIndex::Some(unit)
-    } else {
-        MaybeIndex::Nothing
-    }
-}
+use super::{Claims, Owed, Waits};
 
 impl Claims {
+    #[tactic(auto, unfolding(crate::specs::View::view_claims))]
     pub fn new() -> Claims
         ensures { Means view_claims ClaimsOk result [] }
     {
         Claims {
-            unit: [NOBODY; 256],
+            unit: [None; 256],
             len: 0,
         }
     }
 
     // At least so many registers: nobody owes a new one.
-    pub fn padded(self, len: usize) -> Claims
-        requires claims_ok { ClaimsOk self }
+    pub fn pad(&mut self, len: usize)
+        requires claims_ok { ClaimsOk self.old }
         requires len_bound { len ≤ 256 }
-        ensures { Means view_claims ClaimsOk result (pad (view_claims self) (replicate len [])) }
+        ensures { Means view_claims ClaimsOk self.new (pad (view_claims self.old) (replicate len [])) }
     {
-        let mut c = self;
-        if len <= self.len {
-            return c;
-        }
-        c.len = len;
-        c
+        self.len = self.len.max(len);
     }
 
-    pub fn producer(self, register: usize) -> MaybeIndex
-        requires { ClaimsOk self }
-        ensures { view_maybe_index result ≡ producer_of (view_claims self) register }
+    #[tactic(auto, unfolding(crate::specs::View::view_claims, model::specs::Registers::producer_of))]
+    pub fn producer(&self, register: usize) -> Option<u8>
+        requires { ClaimsOk self.now }
+        ensures { result ≡ producer_of (view_claims self.now) register }
     {
-        if self.len <= register {
-            return MaybeIndex::Nothing;
-        }
-        claimed_by(self.unit[register])
+        self.unit[..self.len].get(register).copied().flatten()
     }
 
-    fn is_claimed(self, register: usize) -> bool
-        requires { ClaimsOk self }
-        ensures { result ≡ is_some (producer_of (view_claims self) register) }
-    {
-        let p = self.producer(register);
-        match p {
-            MaybeIndex::Some(_) => true,
-            MaybeIndex::Nothing => false,
-        }
-    }
-
-    // Also who held the register before.
-    pub fn claim(self, register: usize, unit: u8) -> Claimed
-        requires claims_ok { ClaimsOk self }
-        requires unit_bound { unit < 64 }
-        ensures { ClaimedTo self register unit result }
+    // Who held the register before.
+    pub fn claim(&mut self, register: usize, unit: u8) -> Option<u8>
+        requires { ClaimsOk self.old }
+        ensures after { Means view_claims ClaimsOk self.new (claim unit (view_claims self.old) register) }
+        ensures before { result ≡ producer_of (view_claims self.old) register }
     {
         let before = self.producer(register);
-        let mut c = self;
         if register < self.len {
-            c.unit[register] = unit;
-            return Claimed { claims: c, before };
+            self.unit[register] = Some(unit);
         }
-        Claimed { claims: c, before }
+        before
     }
 
-    pub fn claim_all(self, registers: [u8; 4], n: u8, unit: u8) -> Claims
-        requires claims_ok { ClaimsOk self }
-        requires n_bound { n ≤ 4 }
-        requires unit_bound { unit < 64 }
-        ensures { Means view_claims ClaimsOk result (claim_all unit (view_claims self) (take n registers)) }
+    #[tactic(auto, unfolding(model::specs::Registers::claim_all))]
+    pub fn claim_all(&mut self, registers: &[u8], unit: u8)
+        requires { ClaimsOk self.old }
+        ensures { Means view_claims ClaimsOk self.new (claim_all unit (view_claims self.old) registers.now) }
     {
-        let mut c = self;
-        let end = n as usize;
-        let mut i: usize = 0;
-        while i < end {
-            let r = registers[i] as usize;
-            let one = c.claim(r, unit);
-            c = one.claims;
-            i += 1;
+        for r in registers {
+            self.claim(usize::from(*r), unit);
         }
-        c
     }
 
     // Only if that unit holds it.
-    pub fn release(self, register: usize, unit: u8) -> Claims
-        requires { ClaimsOk self }
-        ensures { Means view_claims ClaimsOk result (release unit (view_claims self) register) }
+    pub fn release(&mut self, register: usize, unit: u8)
+        requires { ClaimsOk self.old }
+        ensures { Means view_claims ClaimsOk self.new (release unit (view_claims self.old) register) }
     {
-        let mut c = self;
-        if self.len <= register {
-            return c;
+        if register < self.len && self.unit[register] == Some(unit) {
+            self.unit[register] = None;
         }
-        if self.unit[register] == unit {
-            c.unit[register] = NOBODY;
-            return c;
-        }
-        c
     }
 
-    pub fn release_all(self, registers: [u8; 4], n: u8, unit: u8) -> Claims
-        requires claims_ok { ClaimsOk self }
-        requires n_bound { n ≤ 4 }
-        ensures { Means view_claims ClaimsOk result (release_all unit (view_claims self) (take n registers)) }
+    #[tactic(auto, unfolding(model::specs::Registers::release_all))]
+    pub fn release_all(&mut self, registers: &[u8], unit: u8)
+        requires { ClaimsOk self.old }
+        ensures { Means view_claims ClaimsOk self.new (release_all unit (view_claims self.old) registers.now) }
     {
-        let mut c = self;
-        let end = n as usize;
-        let mut i: usize = 0;
-        while i < end {
-            let r = registers[i] as usize;
-            c = c.release(r, unit);
-            i += 1;
+        for r in registers {
+            self.release(usize::from(*r), unit);
         }
-        c
     }
 
     // Nobody owes anything any more.
-    pub fn clear_claims(self) -> Claims
-        requires { ClaimsOk self }
-        ensures { Means view_claims ClaimsOk result (map (λ (p : Option ℕ). none) (view_claims self)) }
+    pub fn clear_claims(&mut self)
+        requires { ClaimsOk self.old }
+        ensures { Means view_claims ClaimsOk self.new (map (λ (p : Option ℕ). None) (view_claims self.old)) }
     {
-        Claims {
-            unit: [NOBODY; 256],
-            len: self.len,
-        }
+        self.unit = [None; 256];
     }
 
     // How many registers are claimed.
-    pub fn outstanding_count(self) -> usize
-        requires { ClaimsOk self }
-        ensures { result ≡ length (outstanding 0 (view_claims self)) }
+    #[tactic(auto, using(crate::proofs::Owing::outstanding_length), unfolding(crate::specs::View::view_claims))]
+    pub fn outstanding_count(&self) -> usize
+        requires { ClaimsOk self.now }
+        ensures { result ≡ length (outstanding 0 (view_claims self.now)) }
     {
-        let n = self.len;
-        let mut k: usize = 0;
-        let mut i: usize = 0;
-        while i < n {
-            let u = self.unit[i];
-            i += 1;
-            if u < NOBODY {
-                k += 1;
-            }
-        }
-        k
+        self.unit[..self.len].iter().filter(|u| u.is_some()).count()
     }
 
     // The claim at a place of their list, by rising number.
-    pub fn outstanding(self, index: usize) -> MaybeOwed
-        requires { ClaimsOk self }
-        ensures { view_maybe_owed result ≡ nth (outstanding 0 (view_claims self)) index }
+    #[tactic(auto, unfolding(crate::specs::View::view_claims, crate::specs::View::view_owed, model::specs::Registers::outstanding))]
+    pub fn outstanding(&self, index: usize) -> Option<Owed>
+        requires { ClaimsOk self.now }
+        ensures { option_map view_owed result ≡ slice_get (outstanding 0 (view_claims self.now)) index }
     {
-        let n = self.len;
         let mut left = index;
-        let mut i: usize = 0;
-        while i < n {
-            let register = i;
-            let unit = self.unit[register];
-            i += 1;
-            if unit < NOBODY {
+        for (i, owner) in self.unit[..self.len].iter().enumerate() {
+            if let Some(unit) = *owner {
                 if left == 0 {
-                    let o = Owed {
-                        register: register as u8,
+                    return Some(Owed {
+                        register: i as u8,
                         unit,
-                    };
-                    return MaybeOwed::Some(o);
+                    });
                 }
                 left -= 1;
             }
         }
-        MaybeOwed::Nothing
+        None
     }
 
     // The first of these destinations that somebody in flight writes.
-    pub fn taken(self, registers: [u8; 4], n: u8) -> MaybeIndex
-        requires claims_ok { ClaimsOk self }
-        requires n_bound { n ≤ 4 }
-        ensures { view_maybe_index result ≡ taken (view_claims self) (take n registers) }
+    #[tactic(auto, unfolding(model::specs::Issue::taken))]
+    pub fn taken(&self, registers: &[u8]) -> Option<u8>
+        requires { ClaimsOk self.now }
+        ensures { result ≡ taken (view_claims self.now) registers.now }
     {
-        let end = n as usize;
-        let mut i: usize = 0;
-        while i < end {
-            let r = registers[i];
-            i += 1;
-            if self.is_claimed(r as usize) {
-                return MaybeIndex::Some(r);
+        for r in registers {
+            if self.producer(usize::from(*r)).is_some() {
+                return Some(*r);
             }
         }
-        MaybeIndex::Nothing
+        None
     }
 
     // The sources that are owed, with the unit that owes each.
-    pub fn waits_on(self, sources: [u8; 8], n: u8) -> Waits
-        requires claims_ok { ClaimsOk self }
-        requires n_bound { n ≤ 8 }
-        ensures { Means view_waits WaitsOk result (waits_on (view_claims self) (take n sources)) }
+    #[tactic(auto, unfolding(model::specs::Issue::waits_on))]
+    pub fn waits_on(&self, sources: &[u8]) -> Waits
+        requires claims_ok { ClaimsOk self.now }
+        requires few { length sources.now ≤ 8 }
+        ensures { Means view_waits WaitsOk result (waits_on (view_claims self.now) sources.now) }
     {
-        let end = n as usize;
-        let mut w = Waits::none();
-        let mut i: usize = 0;
-        while i < end {
-            let r = sources[i];
-            i += 1;
-            let p = self.producer(r as usize);
-            if let MaybeIndex::Some(u) = p {
-                w = w.push(r, u);
+        let mut waits = Waits::none();
+        for r in sources {
+            if let Some(unit) = self.producer(usize::from(*r)) {
+                waits.push(*r, unit);
             }
         }
-        w
+        waits
     }
 }
 
 impl Waits {
+    #[tactic(auto, unfolding(crate::specs::View::views))]
     pub fn none() -> Waits
         ensures { Means view_waits WaitsOk result [] }
     {
-        let o = Owed {
+        let nothing = Owed {
             register: 0,
             unit: 0,
         };
         Waits {
-            items: [o; 8],
+            items: [nothing; 8],
             len: 0,
         }
     }
 
-    fn push(self, register: u8, unit: u8) -> Waits
-        requires waits_ok { WaitsOk self }
-        requires len_bound { self.len < 8 }
-        ensures { Means view_waits WaitsOk result (view_waits self ++ (register, unit) ∷ []) }
+    #[tactic(auto, unfolding(crate::specs::View::views))]
+    pub fn push(&mut self, register: u8, unit: u8)
+        requires waits_ok { WaitsOk self.old }
+        requires room { self.old.len < 8 }
+        ensures { Means view_waits WaitsOk self.new (view_waits self.old ++ (register, unit) ∷ []) }
     {
-        let mut w = self;
-        let at = self.len as usize;
-        let o = Owed { register, unit };
-        w.items[at] = o;
-        w.len = self.len + 1;
-        w
+        self.items[self.len as usize] = Owed { register, unit };
+        self.len += 1;
+    }
+
+    #[tactic(auto, unfolding(crate::specs::View::view_waits))]
+    pub fn as_slice(&self) -> &[Owed]
+        requires { WaitsOk self.now }
+        ensures is { result.now ≡ take self.now.len self.now.items }
+        ensures waits { map view_owed result.now ≡ view_waits self.now }
+    {
+        &self.items[..self.len as usize]
     }
 }

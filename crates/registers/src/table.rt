@@ -1,279 +1,172 @@
 // RegisterTable: names are interned at fetch and known from the look on.
-ghost use Rattle.std.specs.Prelude.{◌≡◌, false, [], ◌++◌, map, suc, ◌≤◌, max, take};
+ghost use Rattle.std.specs.Prelude.{◌≡◌, false, [], map, ◌≤◌, ◌<◌, max, take, length, IfSome};
+ghost use Rattle.std.specs.List.{position_from};
 ghost use Rattle.laws.specs.Lists.{All};
 ghost use Rattle.laws.specs.Means.{Means};
-ghost use Rattle.model.specs.Registers.{get, intern, name_of};
+ghost use Rattle.laws.specs.Texts.{same};
+ghost use Rattle.model.specs.Registers.{get, name_of};
 ghost use Rattle.model.specs.Calls.{bad_info, too_many};
-ghost use Rattle.op.specs.View.{view_name, view_op};
-ghost use Rattle.registers.specs.View.{table_of, view_known, view_held, view_table, Short, NameOk, TableOk, view_maybe_index};
-ghost use Rattle.registers.specs.Look.{through};
-ghost use Rattle.registers.specs.Promises.{InternedTo, FoundTo, NumberedTo, ResolvedTo, NoneResolved, AllResolved};
+ghost use Rattle.op.specs.Chars.{view_text};
+ghost use Rattle.op.specs.View.{view_op};
+ghost use Rattle.registers.specs.View.{table_of, view_known, view_held, view_table, Short, NameOk, TableOk};
+ghost use Rattle.registers.specs.Promises.{InternedTo, Lists, FoundTo, NumberedTo, ResolvedTo};
 
-use super::{Found, Interned, MaybeIndex, Numbered, RegisterTable, Resolved};
-use op::{Name, PipelineOp, widened};
+use super::{Operands, RegisterTable};
+use op::{Name, PipelineOp};
 
 impl RegisterTable {
     pub fn new() -> RegisterTable
         ensures { Means view_table TableOk result (table_of [] []) }
     {
-        let n = Name::empty();
         RegisterTable {
-            names: [n; 256],
+            names: [Name::empty(); 256],
             known: 0,
             held: 0,
         }
     }
 
-    // The number of a name, or the one that it gets where it is new.
-    fn find(self, name: Name) -> usize
-        requires { TableOk self }
-        ensures { result ≡ (intern (view_held self) (view_name name)).number }
+    // The place of a name among those held.
+    fn place(&self, name: Name) -> Option<usize>
+        requires { TableOk self.now }
+        ensures is { result ≡ position_from (λ x. same (view_text x) (view_text name)) 0 (take self.now.held self.now.names) }
+        ensures few { IfSome result (λ k. k < 256) }
     {
-        let n = self.held;
-        let mut i: usize = 0;
-        while i < n {
-            let x = self.names[i];
-            if x.same(name) {
-                return i;
-            }
-            i += 1;
-        }
-        i
+        self.names[..self.held].iter().position(|x| *x == name)
     }
 
-    pub fn get(self, name: Name) -> MaybeIndex
-        requires { TableOk self }
-        ensures { view_maybe_index result ≡ get (view_held self) (view_name name) }
+    #[tactic(auto, using(crate::proofs::NameTable::get_position), unfolding(crate::specs::View::view_held))]
+    pub fn get(&self, name: Name) -> Option<u8>
+        requires { TableOk self.now }
+        ensures { result ≡ get (view_held self.now) (view_text name) }
     {
-        let k = self.find(name);
-        if k < self.held {
-            MaybeIndex::Some(k as u8)
-        } else {
-            MaybeIndex::Nothing
-        }
+        self.place(name).map(|k| k as u8)
     }
 
     // "?" where there is none.
-    pub fn name(self, register: usize) -> Name
-        requires { TableOk self }
-        ensures { Means view_name NameOk result (name_of (view_held self) register) }
+    pub fn name(&self, register: usize) -> Name
+        requires { TableOk self.now }
+        ensures { Means view_text NameOk result (name_of (view_held self.now) register) }
     {
         if register < self.held {
-            return self.names[register];
+            self.names[register]
+        } else {
+            Name::from_slice(b"?")
         }
-        Name::from_slice(b"?")
     }
 
-    pub fn intern(self, name: Name) -> Interned
-        requires table_ok { TableOk self }
+    // None where the name is new and the table is full.
+    pub fn intern(&mut self, name: Name) -> Option<u8>
+        requires table_ok { TableOk self.old }
         requires name_ok { NameOk name }
-        ensures { InternedTo self (view_name name) result }
+        ensures { InternedTo self.old (view_text name) self.new result }
     {
-        let k = self.find(name);
-        if k < self.held {
-            return Interned {
-                table: self,
-                number: k as u8,
-                full: false,
-            };
+        if let Some(number) = self.get(name) {
+            return Some(number);
         }
-        if 256 <= k {
-            return Interned {
-                table: self,
-                number: 0,
-                full: true,
-            };
+        if self.held >= 256 {
+            return None;
         }
-        let mut t = self;
-        t.names[k] = name;
-        t.held = k + 1;
-        Interned {
-            table: t,
-            number: k as u8,
-            full: false,
-        }
+        let number = self.held as u8;
+        self.names[self.held] = name;
+        self.held += 1;
+        Some(number)
     }
 
-    // The numbers of the first n names of a list.
-    fn find_all(self, names: [Name; 8], n: u8) -> Found
-        requires table_ok { TableOk self }
-        requires n_bound { n ≤ 8 }
-        ensures { FoundTo self n (map view_name names) result }
+    // The numbers of a list of names, where the table holds them all.
+    fn find_all<const N: usize>(&self, names: &[Name]) -> Option<[u8; N]>
+        requires table_ok { TableOk self.now }
+        requires few { length names.now ≤ N }
+        ensures { FoundTo self.now N (map view_text names.now) result }
     {
-        let mut numbers = [0u8; 8];
-        let end = n as usize;
-        let mut i: usize = 0;
-        while i < end {
-            let name = names[i];
-            let k = self.find(name);
-            if self.held <= k {
-                return Found {
-                    numbers,
-                    all: false,
-                };
-            }
-            numbers[i] = k as u8;
-            i += 1;
+        let mut numbers = [0; N];
+        for (i, name) in names.iter().enumerate() {
+            numbers[i] = self.get(*name)?;
         }
-        Found { numbers, all: true }
+        Some(numbers)
     }
 
-    // Interns the first n names of a list, in order.
-    fn intern_all(self, names: [Name; 8], n: u8) -> Numbered
-        requires table_ok { TableOk self }
-        requires n_bound { n ≤ 8 }
-        requires all { All Short (take n (map view_name names)) }
-        ensures { NumberedTo self n (map view_name names) result }
+    // Interns a list of names, in order.
+    fn intern_all<const N: usize>(&mut self, names: &[Name]) -> Option<[u8; N]>
+        requires table_ok { TableOk self.old }
+        requires few { length names.now ≤ N }
+        requires short { All Short (map view_text names.now) }
+        ensures { NumberedTo self.old N (map view_text names.now) self.new result }
     {
-        let mut table = self;
-        let mut numbers = [0u8; 8];
-        let end = n as usize;
-        let mut i: usize = 0;
-        while i < end {
-            let name = names[i];
-            let one = table.intern(name);
-            if one.full {
-                return Numbered {
-                    table,
-                    numbers,
-                    fits: false,
-                };
-            }
-            table = one.table;
-            numbers[i] = one.number;
-            i += 1;
+        let mut numbers = [0; N];
+        for (i, name) in names.iter().enumerate() {
+            numbers[i] = self.intern(*name)?;
         }
-        Numbered {
-            table,
-            numbers,
-            fits: true,
-        }
+        Some(numbers)
     }
 
-    // Reads before writes. Mostly every name is held, and the table stays as it is.
-    pub fn resolve(self, op: PipelineOp) -> Resolved
-        requires table_ok { TableOk self }
-        requires op_value { bad_info (view_op op).info ≡ false }
-        requires op_value_2 { too_many (view_op op).info ≡ false }
-        ensures { ResolvedTo self (view_op op).info result }
+    // Reads before writes. Mostly every name is held, and the table stays as it is. None, and no change, where the names would be over 256.
+    pub fn resolve(&mut self, op: &PipelineOp) -> Option<Operands>
+        requires table_ok { TableOk self.old }
+        requires op_value { bad_info (view_op op.now).info ≡ false }
+        requires op_value_2 { too_many (view_op op.now).info ≡ false }
+        ensures { ResolvedTo self.old (view_op op.now).info self.new result }
     {
-        let reads = op.sources;
-        let own = op.writes;
-        let writes = widened(own);
-        let n = op.sources_len;
-        let m = op.writes_len;
-        let held_reads = self.find_all(reads, n);
-        let held_writes = self.find_all(writes, m);
-        if held_reads.all && held_writes.all {
-            let r = held_reads.numbers;
-            let w = held_writes.numbers;
-            return resolved(self, r, n, w, m);
+        let reads = reads(op);
+        let writes = writes(op);
+        if let (Some(sources), Some(destinations)) = (self.find_all(reads), self.find_all(writes)) {
+            return Some(Operands {
+                sources,
+                destinations,
+                sources_len: op.sources_len,
+                destinations_len: op.writes_len,
+            });
         }
-        let read = self.intern_all(reads, n);
-        if !read.fits {
-            return unresolved(self);
-        }
-        let between = read.table;
-        let written = between.intern_all(writes, m);
-        if !written.fits {
-            return unresolved(self);
-        }
-        let table = written.table;
-        let rs = read.numbers;
-        let ws = written.numbers;
-        resolved(table, rs, n, ws, m)
+        let mut table = *self;
+        let sources = table.intern_all(reads)?;
+        let destinations = table.intern_all(writes)?;
+        *self = table;
+        Some(Operands {
+            sources,
+            destinations,
+            sources_len: op.sources_len,
+            destinations_len: op.writes_len,
+        })
     }
 
-    // A look: the first `through` of the names held are known.
-    pub fn looked(self, through: usize) -> RegisterTable
-        requires { TableOk self }
-        ensures { Means view_table TableOk result (table_of (take (max self.known through) (view_held self)) (view_held self)) }
+    // The first `through` of the names held are known.
+    pub fn look(&mut self, through: usize)
+        requires { TableOk self.old }
+        ensures { Means view_table TableOk self.new (table_of (take (max self.old.known through) (view_held self.old)) (view_held self.old)) }
     {
-        let mut t = self;
-        if through <= self.known {
-            return t;
-        }
-        if self.held <= through {
-            t.known = self.held;
-            return t;
-        }
-        t.known = through;
-        t
+        self.known = self.known.max(through).min(self.held);
     }
 
     // The queue is empty: only the names known are held.
-    pub fn forgotten(self) -> RegisterTable
-        requires { TableOk self }
-        ensures { Means view_table TableOk result (table_of (view_known self) (view_known self)) }
+    pub fn forget(&mut self)
+        requires { TableOk self.old }
+        ensures { Means view_table TableOk self.new (table_of (view_known self.old) (view_known self.old)) }
     {
-        let mut t = self;
-        t.held = self.known;
-        t
+        self.held = self.known;
     }
 }
 
-// What does not fit leaves the table as it is, and gives no numbers.
-fn unresolved(table: RegisterTable) -> Resolved
-    ensures { NoneResolved table result }
+// The names of an operation's reads.
+fn reads(op: &PipelineOp) -> &[Name]
+    requires op_value { bad_info (view_op op.now).info ≡ false }
+    requires op_value_2 { too_many (view_op op.now).info ≡ false }
+    ensures { Lists 8 op.now.sources_len (view_op op.now).info.sources result.now }
 {
-    Resolved {
-        fits: false,
-        table,
-        sources: [0; 8],
-        sources_len: 0,
-        destinations: [0; 4],
-        destinations_len: 0,
-    }
+    first(&op.sources, op.sources_len)
 }
 
-// The first n numbers of r are those of the reads, the first m of w those of the writes.
-fn resolved(table: RegisterTable, r: [u8; 8], n: u8, w: [u8; 8], m: u8) -> Resolved
-    requires n_bound { n ≤ 8 }
-    requires m_bound { m ≤ 4 }
-    ensures { AllResolved table (take n r) (take m w) result }
+// The names of its writes.
+fn writes(op: &PipelineOp) -> &[Name]
+    requires op_value { bad_info (view_op op.now).info ≡ false }
+    requires op_value_2 { too_many (view_op op.now).info ≡ false }
+    ensures { Lists 4 op.now.writes_len (view_op op.now).info.writes result.now }
 {
-    let destinations = [w[0], w[1], w[2], w[3]];
-    Resolved {
-        fits: true,
-        table,
-        sources: r,
-        sources_len: n,
-        destinations,
-        destinations_len: m,
-    }
+    first(&op.writes, op.writes_len)
 }
 
-// At least one more than a register.
-fn reach(most: usize, register: u8) -> usize
-    ensures { result ≡ max most (suc register) }
+// The first n names of an array.
+pub fn first<const N: usize>(names: &[Name; N], n: u8) -> &[Name]
+    ensures size { length names.now ≡ N }
+    ensures is { result.now ≡ take n names.now }
 {
-    let k = register as usize + 1;
-    if most < k { k } else { most }
-}
-
-// The same for each of the first n registers.
-fn reach_all(most: usize, registers: [u8; 8], n: u8) -> usize
-    requires { n ≤ 8 }
-    ensures { result ≡ max most (through (take n registers)) }
-{
-    let end = n as usize;
-    let mut all = most;
-    let mut i: usize = 0;
-    while i < end {
-        all = reach(all, registers[i]);
-        i += 1;
-    }
-    all
-}
-
-// One more than the largest of an operation's registers: so many names a look at it makes known.
-pub fn through(sources: [u8; 8], n: u8, destinations: [u8; 4], m: u8) -> usize
-    requires n_bound { n ≤ 8 }
-    requires m_bound { m ≤ 4 }
-    ensures { result ≡ through (take n sources ++ take m destinations) }
-{
-    let d = destinations;
-    let wide = [d[0], d[1], d[2], d[3], 0, 0, 0, 0];
-    let read = reach_all(0, sources, n);
-    reach_all(read, wide, m)
+    &names[..N.min(n as usize)]
 }

@@ -1,15 +1,14 @@
-use mathlib.Core.Path.{refl}
-use native.Mathlib.Omega.{arith}
-use Rattle.laws.proofs.Slices.{view-next, slice-end}
-use Rattle.op.specs.View.{view_name}
-use Rattle.registers.proofs.NameTable.{spare}
+use Rattle.std.proofs.Common.{sym, ◌∙◌, arith, length-set}
+use Rattle.registers.proofs.NameTable.{spare, get-some}
 use Rattle.registers.proofs.Numbering.{numbering-next, numbering-last}
-use Rattle.lookup.proofs.Looking.{found_among}
+use Rattle.lookup.specs.Lookup.{first_names}
 use Rattle.lookup.proofs.find_all_in.Goals as goal
 
 pub loop-i-preserved : goal.loop-i-preserved
-loop-i-preserved c = numbering-next c.loop-i.invariant (view-next view_name c.args.list spare (omega arith) c.loop-i-test.true) (omega arith)
-    (found_among c.requires.names_sized c.requires.held_bound _ c.find_by-k.ensures c.if-held-k.false) refl
+loop-i-preserved g c = let v = c.loop-i.invariant in (
+  simp length-set v.0,
+  numbering-next v.1 spare c.loop-i-test.true (omega arith) (get-some (first_names c.args.bs.now c.args.ls.now c.args.held) _ (sym c.find_by.ensures ∙ c.in_ok-numbers.was)).1,
+)
 
 pub returns : goal.returns
-returns c = let v = c.loop-i.invariant in record { is = λ q. numbering-last v c.loop-i-test.false (slice-end _ c.loop-i-test.false); size = v.size }
+returns g c = let v = c.loop-i.invariant in record { is = numbering-last v.1 (omega arith); size = v.0 }

@@ -1,15 +1,18 @@
-use mathlib.Core.Path.{sym, ◌∙◌}
-use native.Mathlib.Nat.{zero-add}
-use Rattle.laws.proofs.Search.{scan-next, scan-stop, scan-last}
-use Rattle.registers.proofs.NameTable.{find-hit, find-miss, find-end}
-use Rattle.lookup.proofs.Looking.{name-next, names-end}
+use Rattle.std.proofs.Common.{sym, ◌∙◌}
+use Rattle.lookup.proofs.Looking.{name-next, names-end, from-first, from-hit, from-miss, from-end}
+use Rattle.op.specs.Chars.{view_text}
+use Rattle.lookup.specs.Lookup.{first_names}
 use Rattle.lookup.proofs.find_in.Goals as goal
 
-pub returns-then-same : goal.returns-then-same
-returns-then-same c = scan-stop c.loop-i.invariant (name-next c.requires.names_sized c.requires.held_bound c.loop-i-test.true) (find-hit _ _ _ (sym c.same.ensures ∙ c.if-same.true)) ∙ zero-add _
+pub loop-i-init : goal.loop-i-init
+loop-i-init c = from-first _ _
+
+pub returns-then-eq : goal.returns-then-eq
+returns-then-eq c = sym (from-hit _ (name-next c.requires.names_sized c.requires.held_bound c.loop-i-test.true) (sym c.eq.ensures ∙ c.if-eq.true)) ∙ c.loop-i.invariant
 
 pub loop-i-preserved : goal.loop-i-preserved
-loop-i-preserved c = scan-next c.loop-i.invariant (name-next c.requires.names_sized c.requires.held_bound c.loop-i-test.true) (find-miss _ _ _ (sym c.same.ensures ∙ c.if-same.false))
+loop-i-preserved c = sym (from-miss _ (name-next c.requires.names_sized c.requires.held_bound c.loop-i-test.true) (sym c.eq.ensures ∙ c.if-eq.false)) ∙ c.loop-i.invariant
 
 pub returns : goal.returns
-returns c = scan-last c.loop-i.invariant (names-end _ _ c.loop-i-test.false) (find-end _ _) ∙ zero-add _
+returns c = let a = c.args in
+    sym (from-end (first_names a.bs.now a.ls.now a.held) (view_text a.name) c.loop-i.i (names-end a.bs.now a.ls.now c.loop-i-test.false)) ∙ c.loop-i.invariant

@@ -1,19 +1,14 @@
-use Prim.Native.Nat.{ℕ}
-use mathlib.Core.Option.{Option, some}
+use mathlib.Core.Path.{refl}
+use native.Mathlib.Omega.{arith}
+use Rattle.std.specs.Prelude.{ℕ, Option, Some}
 use Rattle.model.specs.Registers.{claim}
-use Rattle.registers.proofs.Owing.{claimed-some, claims-set, claims-past}
+use Rattle.registers.proofs.Owing.{claims-set, claims-keep}
 use Rattle.registers.proofs.Claims.claim.Goals as goal
 
-pub returns-then-register-self : goal.returns-then-register-self
+pub returns-then-register-self-clause-after : goal.returns-then-register-self-clause-after
 unfolding claim
-returns-then-register-self c = record {
-  after = claims-set c.requires.claims_ok (λ (old : Option ℕ). some c.args.unit) c.args.unit c.if-register-self.true (claimed-some c.requires.unit_bound);
-  before = c.producer-before.ensures;
-}
+returns-then-register-self-clause-after c = claims-set c.requires (λ (old : Option ℕ). Some c.args.unit) c.if-register-self.true refl
 
-pub returns : goal.returns
+pub returns-else-register-self-clause-after : goal.returns-else-register-self-clause-after
 unfolding claim
-returns c = record {
-  after = claims-past c.requires.claims_ok (λ (old : Option ℕ). some c.args.unit) c.if-register-self.false;
-  before = c.producer-before.ensures;
-}
+returns-else-register-self-clause-after c = claims-keep c.requires (λ (old : Option ℕ). Some c.args.unit) (λ h. absurd (omega arith))

@@ -1,11 +1,10 @@
-use Prim.Native.Nat.{◌-◌}
-use Rattle.laws.proofs.Search.{Scan}
+use mathlib.Core.Path.{◌≡◌}
+use lib.ListN.{drop}
+use Rattle.std.specs.Prelude.{slice_get}
+use Rattle.model.specs.Registers.{outstanding}
 use Rattle.registers.specs.View.{view_claims}
-use Rattle.registers.proofs.Owing.{outstanding-at}
 use Rattle.registers.proofs.Claims.outstanding.Given as goal
 
+-- Of those from register i on so many are still to pass.
 abbrev pub invariant-loop-i : goal.invariant-loop-i
-invariant-loop-i l = Scan outstanding-at (l.index, 0) (view_claims l.self) l.n (l.left, l.i) l.i
-
-abbrev pub decreases-loop-i : goal.decreases-loop-i
-decreases-loop-i l = l.n - l.i
+invariant-loop-i l = slice_get (outstanding l.i (drop l.i (view_claims l.self))) l.left ≡ slice_get (outstanding 0 (view_claims l.self)) l.index

@@ -1,17 +1,12 @@
-use mathlib.Core.Path.{sym}
+use native.Mathlib.Omega.{arith}
 use Rattle.model.specs.Registers.{release, release_held}
-use Rattle.registers.specs.View.{claimed}
-use Rattle.registers.proofs.Owing.{claims-set, claims-keep, claims-past, release-own, release_other}
+use Rattle.registers.proofs.Owing.{claims-set, claims-keep, release_own, release_other}
 use Rattle.registers.proofs.Claims.release.Goals as goal
 
-pub returns-then-self-register : goal.returns-then-self-register
+pub returns-then-eq : goal.returns-then-eq
 unfolding release
-returns-then-self-register c = claims-past c.requires _ c.if-self-register.true
+returns-then-eq c = claims-set c.requires (release_held c.args.unit) c.if-register-self.true (grind (arith, release_own))
 
-pub returns-then-self-register-2 : goal.returns-then-self-register-2
-unfolding release claimed
-returns-then-self-register-2 c = claims-set c.requires (release_held c.args.unit) 64 c.if-self-register.false (sym (release-own c.args.unit c.if-self-register-2.true))
-
-pub returns : goal.returns
+pub returns-else-register-self : goal.returns-else-register-self
 unfolding release
-returns c = claims-keep c.requires (release_held c.args.unit) c.if-self-register.false (release_other c.args.unit c.if-self-register-2.false)
+returns-else-register-self c = claims-keep c.requires (release_held c.args.unit) (λ h. grind (arith, release_other))

@@ -1,11 +1,12 @@
+use Rattle.std.proofs.Common.{sym, ◌∙◌}
 use Rattle.registers.proofs.NameTable.{interned-held, interned-full, interned-new}
 use Rattle.registers.proofs.RegisterTable.intern.Goals as goal
 
-pub returns-then-k-self : goal.returns-then-k-self
-returns-then-k-self c = interned-held c.requires.table_ok _ c.find-k.ensures c.if-k-self.true
+pub returns-in-Some : goal.returns-in-Some
+returns-in-Some c = interned-held c.requires.table_ok _ (sym c.get.ensures ∙ c.in-Some.is)
 
-pub returns-then-k-ge256 : goal.returns-then-k-ge256
-returns-then-k-ge256 c = interned-full c.requires.table_ok _ c.find-k.ensures c.if-k-self.false c.if-k-ge256.true
+pub returns-then-self-ge256 : goal.returns-then-self-ge256
+returns-then-self-ge256 c = interned-full c.requires.table_ok _ (sym c.get.ensures ∙ c.in_default.is) c.if-self-ge256.true
 
 pub returns : goal.returns
-returns c = interned-new c.requires.table_ok _ c.find-k.ensures c.requires.name_ok c.if-k-self.false c.if-k-ge256.false
+returns c = interned-new c.requires.table_ok _ (sym c.get.ensures ∙ c.in_default.is) c.requires.name_ok c.if-self-ge256.false

@@ -7,6 +7,6 @@ use Rattle.registers.proofs.Waits.push.Goals as goal
 pub returns : goal.returns
 unfolding view_owed view_waits
 returns c = record {
-  is = view-pushed view_owed c.args.self.items c.args.self.len _ (omega arith);
+  is = view-pushed view_owed c.args.self.now.items c.args.self.now.len _ (omega arith);
   ok = record { count = omega arith; size = simp length-set c.requires.waits_ok.size };
 }
