@@ -1,11 +1,12 @@
 -- Writes to a lent memory, as the code makes them: one byte stored, and a list copied from a place on.
 use Prim.Native.Nat.{ℕ, zero, suc, ◌+◌, ◌≤◌}
 use mathlib.Core.Path.{◌≡◌, refl, sym, ap, ◌∙◌}
-use mathlib.Core.List.{List, [], ◌∷◌, ◌++◌}
+use mathlib.Core.List.{List, [], ◌∷◌, ◌++◌, append_assoc}
 use native.Mathlib.Nat.{zero-add, suc-add, not-suc-le-zero, le_of_suc-le-suc}
 use native.Mathlib.Omega.{arith}
-use lib.ListN.{length, set, take, drop}
-use Rattle.laws.proofs.Copy.{Copied, copied-last}
+use lib.ListN.{length, set, take, drop, replicate, length-drop, length-replicate}
+use borrow.Rule.Slice.PartMut.{put_mid}
+use lib.Seq.{drop-drop, length-take-le}
 use Rattle.model.specs.Timeline.{overlay, splice}
 
 pub splice-set : (p b : ℕ) (m : List ℕ) → splice p (b ∷ []) m ≡ set m p b
@@ -28,12 +29,25 @@ splice-parts (suc p) s [] h = absurd (let z : ⊥ = omega arith in z)
 splice-parts (suc p) s (x ∷ m) h =
     ap (λ t. x ∷ t) (splice-parts p s m (omega arith)) ∙ ap (λ k. x ∷ (take p m ++ s ++ drop k (x ∷ m))) (sym (suc-add p (length s)))
 
--- The loop that copies.
-pub copied-splice : {s m₀ m : List ℕ} {n at j : ℕ} → Copied s m₀ m n at j → n ≤ j → m ≡ splice at s m₀
-copied-splice {s} {m₀} {n = n} {at = at} e h =
-    copied-last e h
-    ∙ ap (λ k. take at m₀ ++ s ++ drop (at + k) m₀) (sym e.whole)
-    ∙ sym (splice-parts at s m₀ (omega (arith, e.whole, e.room)))
+-- A part of the memory that the code overwrites.
+pub put_splice : (a k : ℕ) (m s : List ℕ) → length s ≡ k → a + k ≤ length m → put_mid a k m s ≡ splice a s m
+put_splice a k m s e h =
+    ap (λ l. take a m ++ (s ++ l)) (drop-drop k a m ∙ ap (λ n. drop (a + n) m) (sym e)) ∙ sym (append_assoc (take a m) s _)
+    ∙ sym (splice-parts a s m (omega (arith, e)))
+
+pub put_front : (k : ℕ) (m s : List ℕ) → length s ≡ k → k ≤ length m → s ++ drop k m ≡ overlay s m
+put_front k m s e h = ap (λ n. s ++ drop n m) (sym e) ∙ sym (overlay-parts s m (omega arith))
+
+-- What `fill` leaves: of a part of the memory, and of its front.
+pub filled_splice : (a k n b : ℕ) (m s : List ℕ) → s ≡ replicate (length (take k (drop a m))) b → k ≡ n → a + n ≤ length m
+    → put_mid a k m s ≡ splice a (replicate n b) m
+filled_splice a k n b m s e q h =
+    let size : length (take k (drop a m)) ≡ n = length-take-le k (drop a m) (omega (arith, length-drop a m)) ∙ q in
+    ap (put_mid a k m) (e ∙ ap (λ j. replicate j b) size) ∙ put_splice a k m (replicate n b) (length-replicate n b ∙ sym q) (omega arith)
+
+pub filled_front : (n b : ℕ) (m s : List ℕ) → s ≡ replicate (length (take n m)) b → n ≤ length m → s ++ drop n m ≡ overlay (replicate n b) m
+filled_front n b m s e h =
+    ap (λ l. l ++ drop n m) (e ∙ ap (λ j. replicate j b) (length-take-le n m h)) ∙ put_front n m (replicate n b) (length-replicate n b) h
 
 -- ── One text behind another ─────────────────────────────────────────────────
 

@@ -3,13 +3,12 @@ use Prim.Native.Nat.{ℕ, zero, suc, ◌+◌, ◌-◌, ◌≤◌, ◌<◌, min}
 use mathlib.Core.Path.{◌≡◌, refl, sym, ap, ap₂, ◌∙◌}
 use mathlib.Core.Bool.{cond}
 use mathlib.Core.Logic.{◌⊎◌, inl, inr, ⊎_elim}
-use mathlib.Core.Option.{some}
+use Rattle.std.specs.Prelude.{Some, slice_get}
 use mathlib.Core.List.{List, [], ◌∷◌, ◌++◌}
 use native.Mathlib.Nat.{add-zero, not-suc-le-zero, le_of_suc-le-suc}
 use native.Mathlib.Omega.{arith}
 use lib.Dec.{eqb}
 use lib.ListN.{length, drop}
-use Rattle.laws.specs.Lists.{nth}
 use Rattle.laws.proofs.Tests.{cond-eq, cond-ne, lt-or-ge}
 use Rattle.model.specs.Timeline.{Row, add_cell, push, push_writes, next_place, open_row}
 use Rattle.timeline.specs.View.{from}
@@ -22,11 +21,11 @@ module _ (f : ℕ → Row) where
   from-length i zero = refl
   from-length i (suc n) = ap suc (from-length (suc i) n)
 
-  pub from-nth : (i n : ℕ) {k : ℕ} → k < n → nth (from f i n) k ≡ some (f (i + k))
-  unfolding from nth
+  pub from-nth : (i n : ℕ) {k : ℕ} → k < n → slice_get (from f i n) k ≡ Some (f (i + k))
+  unfolding from
   from-nth i zero h = absurd (not-suc-le-zero h)
-  from-nth i (suc n) {k = zero} h = ap (λ j. some (f j)) (sym (add-zero i))
-  from-nth i (suc n) {k = suc k} h = from-nth (suc i) n (le_of_suc-le-suc h) ∙ ap (λ j. some (f j)) (omega arith)
+  from-nth i (suc n) {k = zero} h = ap (λ j. Some (f j)) (sym (add-zero i))
+  from-nth i (suc n) {k = suc k} h = from-nth (suc i) n (le_of_suc-le-suc h) ∙ ap (λ j. Some (f j)) (omega arith)
 
   pub from_last : (i n : ℕ) → from f i (suc n) ≡ from f i n ++ f (i + n) ∷ []
   unfolding from

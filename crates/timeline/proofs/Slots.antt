@@ -1,14 +1,13 @@
 -- Which ids are held, and in which slots.
-use Prim.Native.Nat.{ℕ, suc, ◌+◌, ◌-◌, ◌*◌, ◌/◌, ◌%◌, ◌≤◌, ◌<◌, min}
-use mathlib.Core.Path.{◌≡◌, ap, ◌∙◌}
+use Rattle.std.specs.Prelude.{None, Some}
+use Prim.Native.Nat.{ℕ, suc, ◌+◌, ◌-◌, ◌*◌, ◌/◌, ◌%◌, ◌≤◌, ◌<◌}
+use mathlib.Core.Path.{◌≡◌, ◌∙◌}
 use mathlib.Core.Logic.{◌⊎◌, inl, inr, ⊎_elim}
 use native.Mathlib.Nat.{div-add-mod', mul-le-mul_right, suc-mul, mod-lt}
 use native.Mathlib.Omega.{arith}
-use Rattle.laws.specs.Means.{Means}
 use Rattle.laws.proofs.Tests.{cond-lt, cond-ge, lt-or-ge}
 use Rattle.timeline.specs.declared.Window.{Window}
-use Rattle.timeline.specs.declared.Slot.TheVariants.{At, Nothing}
-use Rattle.timeline.specs.View.{WindowOk, the_window, no_rows, opened, SlotOf, slot_held}
+use Rattle.timeline.specs.View.{WindowOk, SlotOf, slot_held}
 
 -- Fewer than h apart, two numbers have different remainders.
 pub apart : (h i j : ℕ) → i < j → j < i + h → i % h ≡ j % h → ⊥
@@ -22,28 +21,6 @@ apart h i j l g e = ⊎_elim less more (lt-or-ge (i / h) (j / h))
     more : j / h ≤ i / h → ⊥
     more p = omega (arith, mul-le-mul_right h p, div-add-mod' i h, div-add-mod' j h)
 
--- ── The window's steps ──────────────────────────────────────────────────────
-
-pub no-rows-means : {r : Window} (h : ℕ) → 1 ≤ h → h ≤ 256 → r ≡ no_rows h → Means the_window WindowOk r (no_rows h)
-no-rows-means h l m e = record { is = e; ok = rw e (record { few = omega arith; past = omega arith; least = l; most = m }) }
-
-abbrev pub window : ℕ → ℕ → ℕ → Window
-window history next held = record { next = next; held = held; history = history }
-
--- k is the count that the code keeps
-pub opened-means : {w : Window} → WindowOk w → {k : ℕ} → k ≡ min (w.held + 1) w.history
-    → Means the_window WindowOk (window w.history (w.next + 1) k) (opened w)
-opened-means {w} ok e =
-    record {
-      is = ap (window w.history (w.next + 1)) e;
-      ok = record {
-        few = omega arith;
-        past = omega (arith, ok.past);
-        least = ok.least;
-        most = ok.most;
-      };
-    }
-
 -- ── Slots ───────────────────────────────────────────────────────────────────
 
 -- Id i is held, in slot s.
@@ -53,22 +30,22 @@ pub record Held (w : Window) (i s : ℕ) : Type 0 where
   pub slot : SlotOf w i s
 
 module _ (w : Window) (i : ℕ) where
-  pub gone-before : i < w.next - w.held → slot_held w i ≡ Nothing
+  pub gone-before : i < w.next - w.held → slot_held w i ≡ None
   unfolding slot_held
   gone-before l = cond-lt _ _ l
 
-  pub gone-after : w.next - w.held ≤ i → w.next ≤ i → slot_held w i ≡ Nothing
+  pub gone-after : w.next - w.held ≤ i → w.next ≤ i → slot_held w i ≡ None
   unfolding slot_held
   gone-after l m = cond-ge _ _ l ∙ cond-ge _ _ m
 
-  pub held-slot : w.next - w.held ≤ i → i < w.next → slot_held w i ≡ At (i % w.history)
+  pub held-slot : w.next - w.held ≤ i → i < w.next → slot_held w i ≡ Some (i % w.history)
   unfolding slot_held
   held-slot l m = cond-ge _ _ l ∙ cond-lt _ _ m
 
-  not_at : {s : ℕ} {A : Type 0} → slot_held w i ≡ At s → slot_held w i ≡ Nothing → A
+  not_at : {s : ℕ} {A : Type 0} → slot_held w i ≡ Some s → slot_held w i ≡ None → A
   not_at e n = absurd (let z : ◌≡◌ {A = ℕ} 0 1 = cc in omega arith)
 
-  pub found : WindowOk w → {s : ℕ} → slot_held w i ≡ At s → Held w i s
+  pub found : WindowOk w → {s : ℕ} → slot_held w i ≡ Some s → Held w i s
   found ok {s} e =
       ⊎_elim
       (λ l. not_at e (gone-before l))
@@ -77,11 +54,11 @@ module _ (w : Window) (i : ℕ) where
     where
       held : w.next - w.held ≤ i → i < w.next → Held w i s
       held l m =
-          let t : slot_held w i ≡ At (i % w.history) = held-slot l m in
+          let t : slot_held w i ≡ Some (i % w.history) = held-slot l m in
           let at : s ≡ i % w.history = cc in
           record { least = l; most = m; slot = record { is = at; below = omega (arith, at, mod-lt i ok.least) } }
 
-  pub not_found : slot_held w i ≡ Nothing → (i < w.next - w.held) ⊎ (w.next ≤ i)
+  pub not_found : slot_held w i ≡ None → (i < w.next - w.held) ⊎ (w.next ≤ i)
   not_found e =
       ⊎_elim
       inl

@@ -2,13 +2,12 @@
 use Prim.Native.Nat.{ℕ, ◌+◌, ◌-◌, ◌*◌, ◌%◌, ◌≤◌, ◌<◌, min}
 use mathlib.Core.Path.{◌≡◌, refl, sym, ap, ap₂, ◌∙◌}
 use mathlib.Core.Logic.{◌⊎◌, inl, inr, ⊎_elim}
-use mathlib.Core.Option.{none, some}
+use Rattle.std.specs.Prelude.{None, Some, slice_get}
 use mathlib.Core.List.{List, []}
 use native.Mathlib.Nat.{mod-lt}
 use native.Mathlib.Omega.{arith}
 use lib.ListN.{length, get_or, set, replicate, length-set}
 use lib.Seq.{get_or-set_same, get_or-set_other, set-get_or}
-use Rattle.laws.specs.Lists.{nth}
 use Rattle.laws.specs.Means.{Means}
 use Rattle.laws.proofs.Tests.{cond-eq, lt-or-ge}
 use Rattle.laws.proofs.Slices.{get_d_any, nth_end, All-get_or, All-set}
@@ -18,25 +17,7 @@ use Rattle.timeline.specs.declared.Tracks.{Tracks}
 use Rattle.timeline.specs.declared.RowText.{RowText}
 use Rattle.timeline.specs.declared.RowTexts.{RowTexts}
 use Rattle.timeline.specs.declared.Window.{Window}
-use Rattle.timeline.specs.View.{
-  from,
-  row_at,
-  first_track,
-  no_text,
-  held_row,
-  view_rows,
-  WindowOk,
-  TrackOk,
-  TracksOk,
-  RowTextsOk,
-  all_tracks,
-  all_texts,
-  no_rows,
-  opened,
-  SlotOf,
-  Grown,
-  Pushed,
-}
+use Rattle.timeline.specs.View.{from, row_at, first_track, no_text, held_row, view_rows, WindowOk, TrackOk, TracksOk, RowTextsOk, all_tracks, all_texts, no_rows, opened, SlotOf, Grown, Pushed}
 use Rattle.timeline.proofs.Memory.{splice-set}
 use Rattle.timeline.proofs.Slots.{apart, Held}
 use Rattle.timeline.proofs.Rows.{from-length, from-nth, from-same, with_row, with-row-other, from-push, from-writes, from-no-writes, from-open}
@@ -237,16 +218,16 @@ module _ (w : Window) (ts : Tracks) (xs : RowTexts) where
   unfolding view_rows
   rows-count = from-length rows (w.next - w.held) w.held
 
-  pub rows_end : {k : ℕ} → w.held ≤ k → nth (view_rows w ts xs) k ≡ none
+  pub rows_end : {k : ℕ} → w.held ≤ k → slice_get (view_rows w ts xs) k ≡ None
   rows_end h = nth_end (view_rows w ts xs) (rw rows-count h)
 
   -- The row of id i stands in slot s.
   pub rows-nth : {k i s : ℕ} → k < w.held → i ≡ w.next - w.held + k → SlotOf w i s
-      → nth (view_rows w ts xs) k ≡ some (row_at i (get_or ts.items s (first_track 0)) (get_or xs.items s no_text))
+      → slice_get (view_rows w ts xs) k ≡ Some (row_at i (get_or ts.items s (first_track 0)) (get_or xs.items s no_text))
   unfolding view_rows held_row
   rows-nth {k} {i} h p q =
-      from-nth rows (w.next - w.held) w.held h ∙ ap (λ j. some (rows j)) (sym p)
-      ∙ ap (λ j. some (row_at i (get_or ts.items j (first_track 0)) (get_or xs.items j no_text))) (sym q.is)
+      from-nth rows (w.next - w.held) w.held h ∙ ap (λ j. Some (rows j)) (sym p)
+      ∙ ap (λ j. Some (row_at i (get_or ts.items j (first_track 0)) (get_or xs.items j no_text))) (sym q.is)
 
 pub no-rows-shown : (h : ℕ) (ts : Tracks) (xs : RowTexts) → view_rows (no_rows h) ts xs ≡ []
 unfolding view_rows from

@@ -1,12 +1,9 @@
 -- What the parts mean to the model: together they are its list of rows, oldest first.
-use Rattle.std.specs.Prelude.{ℕ, zero, suc, ◌+◌, ◌-◌, ◌%◌, ◌≤◌, ◌<◌, min, ◌≡◌, true, false, cond, List, [], ◌∷◌, ltb, length, get_or, replicate}
-use Rattle.std.proofs.Math.Option.{Option, none, some}
-use Rattle.laws.specs.Lists.{All, nth}
-use Rattle.laws.specs.Optional.{omap}
+use Rattle.op.specs.declared.chars.Chars.{Chars}
+use Rattle.std.specs.Prelude.{ℕ, zero, suc, ◌+◌, ◌-◌, ◌%◌, ◌≤◌, ◌<◌, min, ◌≡◌, false, cond, List, [], ◌∷◌, ltb, length, get_or, replicate, Option, None, Some, slice_get, option_map}
+use Rattle.laws.specs.Lists.{All}
 use Rattle.capability.specs.declared.PipelineInstructionClass.TheVariants.{Unknown}
-use Rattle.op.specs.declared.Text.{Text as TextBytes}
-use Rattle.op.specs.declared.MaybeText.{MaybeText}
-use Rattle.op.specs.View.{view_text, view_maybe_text}
+use Rattle.op.specs.Chars.{view_text, Fits}
 use Rattle.model.specs.Timeline.{Row, row_of, add_cell, push}
 use Rattle.model.specs.Views.{RowView, row_view}
 use Rattle.model.specs.Calls.{Answer, shown_row}
@@ -15,11 +12,7 @@ use Rattle.timeline.specs.declared.Tracks.{Tracks}
 use Rattle.timeline.specs.declared.RowText.{RowText}
 use Rattle.timeline.specs.declared.RowTexts.{RowTexts}
 use Rattle.timeline.specs.declared.Window.{Window}
-use Rattle.timeline.specs.declared.Slot.{Slot}
-use Rattle.timeline.specs.declared.Slot.TheVariants as slot
 use Rattle.timeline.specs.declared.PipelineTimelineRow.{PipelineTimelineRow}
-use Rattle.timeline.specs.declared.MaybeRow.{MaybeRow}
-use Rattle.timeline.specs.declared.MaybeRow.TheVariants as maybe
 
 -- ── The rows ────────────────────────────────────────────────────────────────
 
@@ -31,7 +24,7 @@ row_at i t x = row_of i x.address (view_text x.disassembly) x.class t.first_cycl
 abbrev pub first_track : ℕ → Track
 first_track cycle = record { first_cycle = cycle; cells = 1; oldest = 0 }
 
-abbrev pub no_bytes : TextBytes
+abbrev pub no_bytes : Chars 64
 no_bytes = record { bytes = replicate 64 0; len = 0 }
 
 abbrev pub no_text : RowText
@@ -99,8 +92,8 @@ pub record SlotOf (w : Window) (i s : ℕ) : Type 0 where
   pub below : s < w.history
 
 -- The slot of a row id, where it is held.
-unfoldable pub slot_held : Window → ℕ → Slot
-slot_held w i = cond (ltb i (w.next - w.held)) slot.Nothing (cond (ltb i w.next) (slot.At (i % w.history)) slot.Nothing)
+unfoldable pub slot_held : Window → ℕ → Option ℕ
+slot_held w i = cond (ltb i (w.next - w.held)) None (cond (ltb i w.next) (Some (i % w.history)) None)
 
 -- One more cell, whatever the row's id and text.
 pub record Grown (t r : Track) : Type 0 where
@@ -127,10 +120,6 @@ shown r =
       oldest = r.oldest_at;
     }
 
-unfoldable pub shown_or_none : Option Row → MaybeRow
-shown_or_none none = maybe.Nothing
-shown_or_none (some r) = maybe.Some (shown r)
-
 unfoldable pub view_row : PipelineTimelineRow → RowView
 view_row v =
     record {
@@ -143,15 +132,14 @@ view_row v =
     }
 
 -- The view timeline_row, as the model answers it.
-unfoldable pub row_answer : MaybeRow → Answer
-row_answer (maybe.Some v) = shown_row (some (view_row v))
-row_answer maybe.Nothing = shown_row none
+unfoldable pub row_answer : Option PipelineTimelineRow → Answer
+row_answer r = shown_row (option_map view_row r)
 
-pub record ShowsRow (o : Option Row) (r : MaybeRow) : Type 0 where
-  pub is : r ≡ shown_or_none o
-  pub answer : row_answer r ≡ shown_row (omap row_view o)
+pub record ShowsRow (o : Option Row) (r : Option PipelineTimelineRow) : Type 0 where
+  pub is : r ≡ option_map shown o
+  pub answer : row_answer r ≡ shown_row (option_map row_view o)
 
 -- The text of the row at an index, whatever the tracks; where it is there it fits its array.
-pub record ShowsText (w : Window) (xs : RowTexts) (k : ℕ) (r : MaybeText) : Type 0 where
-  pub is : (ts : Tracks) → view_maybe_text r ≡ omap (λ (row : Row). row.disassembly) (nth (view_rows w ts xs) k)
-  pub fits : r.some ≡ true → r.text.len ≤ 64
+pub record ShowsText (w : Window) (xs : RowTexts) (k : ℕ) (r : Option (Chars 64)) : Type 0 where
+  pub is : (ts : Tracks) → option_map view_text r ≡ option_map (λ (row : Row). row.disassembly) (slice_get (view_rows w ts xs) k)
+  pub fits : Fits r

@@ -3,35 +3,15 @@
 #![tactic(auto)]
 
 use capability::PipelineInstructionClass;
-use op::{MaybeText, Text};
+use op::Text;
 
 // The lent cell memory, and the view of a cell.
 pub mod cells;
 
-ghost use Rattle.std.specs.Prelude.{◌≡◌, ◌+◌, ◌-◌, ◌*◌, ◌%◌, ◌<◌, ◌≤◌, max, length, set, replicate};
+ghost use Rattle.std.specs.Prelude.{◌≡◌, ◌+◌, ◌-◌, ◌*◌, ◌%◌, ◌<◌, ◌≤◌, max, length, set, replicate, slice_get};
 ghost use Rattle.laws.specs.Means.{Means};
-ghost use Rattle.laws.specs.Lists.{nth};
 ghost use Rattle.laws.specs.Numbers.{max64};
-ghost use Rattle.timeline.specs.View.{
-  first_track,
-  no_text,
-  view_rows,
-  WindowOk,
-  TrackOk,
-  TracksOk,
-  RowTextOk,
-  RowTextsOk,
-  all_tracks,
-  all_texts,
-  the_window,
-  no_rows,
-  opened,
-  SlotOf,
-  slot_held,
-  Grown,
-  ShowsRow,
-  ShowsText,
-};
+ghost use Rattle.timeline.specs.View.{first_track, no_text, view_rows, WindowOk, TrackOk, TracksOk, RowTextOk, RowTextsOk, all_tracks, all_texts, the_window, no_rows, opened, SlotOf, slot_held, Grown, ShowsRow, ShowsText};
 
 // What a wait of a cycle is for (`Trace`). WaitsForOlder is WaitsFor without a producer.
 #[derive(Clone, Copy)]
@@ -83,13 +63,6 @@ pub struct Window {
     pub history: usize,
 }
 
-// The slot of a row, where it is held.
-#[derive(Drop)]
-pub enum Slot {
-    At(usize),
-    Nothing,
-}
-
 // PipelineTimelineRow, with the row's id and the byte of its oldest cell.
 #[derive(Clone, Copy)]
 pub struct PipelineTimelineRow {
@@ -102,70 +75,57 @@ pub struct PipelineTimelineRow {
     pub oldest: u8,
 }
 
-#[derive(Drop)]
-pub enum MaybeRow {
-    Some(PipelineTimelineRow),
-    Nothing,
-}
-
 impl Window {
     // No rows; a history of 0 reads as 1.
     pub fn new(history: usize) -> Window
         requires { history ≤ 256 }
         ensures { Means the_window WindowOk result (no_rows (max 1 history)) }
     {
-        let least = if history == 0 { 1 } else { history };
         Window {
             next: 0,
             held: 0,
-            history: least,
+            history: history.max(1),
         }
     }
 
     // The step of opening the row of id `next`.
-    pub fn opened(self) -> Window
-        requires window_ok { WindowOk self }
-        requires next_lt_max64 { self.next < max64 }
-        ensures { Means the_window WindowOk result (opened self) }
+    pub fn open(&mut self)
+        requires window_ok { WindowOk self.old }
+        requires next_lt_max64 { self.old.next < max64 }
+        ensures { Means the_window WindowOk self.new (opened self.old) }
     {
-        let mut w = self;
-        w.next = self.next + 1;
-        if self.held < self.history {
-            w.held = self.held + 1;
-        }
-        w
+        self.next += 1;
+        self.held = (self.held + 1).min(self.history);
     }
 
     // The slot of a row id.
-    pub fn slot(self, id: u64) -> usize
-        requires { WindowOk self }
-        ensures { SlotOf self id result }
+    pub fn slot(&self, id: u64) -> usize
+        requires { WindowOk self.now }
+        ensures { SlotOf self.now id result }
     {
         (id % (self.history as u64)) as usize
     }
 
     // The id of the row at an index, oldest first.
-    pub fn id_at(self, index: usize) -> u64
-        requires window_ok { WindowOk self }
-        requires index_lt_held { index < self.held }
-        ensures { result ≡ self.next - self.held + index }
+    pub fn id_at(&self, index: usize) -> u64
+        requires window_ok { WindowOk self.now }
+        requires index_lt_held { index < self.now.held }
+        ensures { result ≡ self.now.next - self.now.held + index }
     {
         self.next - self.held as u64 + index as u64
     }
 
     // The slot of a row id, where the row is held.
-    pub fn find(self, id: u64) -> Slot
-        requires { WindowOk self }
-        ensures { result ≡ slot_held self id }
+    #[tactic(auto, unfolding(crate::specs::View::slot_held))]
+    pub fn find(&self, id: u64) -> Option<usize>
+        requires { WindowOk self.now }
+        ensures { result ≡ slot_held self.now id }
     {
         let first = self.next - self.held as u64;
-        if id < first {
-            return Slot::Nothing;
-        }
-        if id < self.next {
-            Slot::At(self.slot(id))
+        if first <= id && id < self.next {
+            Some(self.slot(id))
         } else {
-            Slot::Nothing
+            None
         }
     }
 }
@@ -183,40 +143,36 @@ impl Track {
     }
 
     // The byte of the slot that a cell stands at, counted from the oldest.
-    pub fn place(self, index: usize) -> usize
-        requires track_ok { TrackOk self }
+    pub fn place(&self, index: usize) -> usize
+        requires track_ok { TrackOk self.now }
         requires index_bound { index ≤ 200 }
-        ensures { result ≡ (self.oldest + index) % 200 }
+        ensures { result ≡ (self.now.oldest + index) % 200 }
     {
         (self.oldest as usize + index) % 200
     }
 
     // One cell more; beyond 200 the oldest goes and the first cycle rises, stopping at 2^64 - 1.
-    pub fn grown(self) -> Track
-        requires { TrackOk self }
-        ensures { Grown self result }
+    pub fn grow(&mut self)
+        requires { TrackOk self.old }
+        ensures { Grown self.old self.new }
     {
-        let mut t = self;
         if self.cells < 200 {
-            t.cells = self.cells + 1;
+            self.cells += 1;
         } else {
-            let cycle = capability::saturating_add(self.first_cycle, 1);
-            t.first_cycle = cycle;
-            t.oldest = (self.oldest + 1) % 200;
+            self.first_cycle = self.first_cycle.saturating_add(1);
+            self.oldest = (self.oldest + 1) % 200;
         }
-        t
     }
 
     // A cell's byte to the row in slot s.
-    pub fn push(self, s: usize, byte: u8, cells: &mut [u8]) -> Track
-        requires track_ok { TrackOk self }
+    pub fn push(&mut self, s: usize, byte: u8, cells: &mut [u8])
+        requires track_ok { TrackOk self.old }
         requires s_in_bounds { s * 200 + 200 ≤ length cells.old }
-        ensures track { Grown self result }
-        ensures memory { cells.new ≡ set cells.old (s * 200 + (self.oldest + self.cells) % 200) byte }
+        ensures track { Grown self.old self.new }
+        ensures memory { cells.new ≡ set cells.old (s * 200 + (self.old.oldest + self.old.cells) % 200) byte }
     {
-        let at = s * 200 + self.place(self.cells as usize);
-        cells[at] = byte;
-        self.grown()
+        cells[s * 200 + self.place(self.cells as usize)] = byte;
+        self.grow();
     }
 }
 
@@ -224,8 +180,9 @@ impl Tracks {
     pub fn new() -> Tracks
         ensures { Means all_tracks TracksOk result (replicate 256 (first_track 0)) }
     {
-        let t = Track::first(0);
-        Tracks { items: [t; 256] }
+        Tracks {
+            items: [Track::first(0); 256],
+        }
     }
 }
 
@@ -246,53 +203,52 @@ impl RowTexts {
     }
 
     // Timeline::open, what stays.
-    pub fn open(self, window: Window, row: RowText) -> RowTexts
+    pub fn open(&mut self, window: Window, row: RowText)
         requires window_ok { WindowOk window }
-        requires row_texts_ok { RowTextsOk self }
+        requires row_texts_ok { RowTextsOk self.old }
         requires row_text_ok { RowTextOk row }
-        ensures { Means all_texts RowTextsOk result (set self.items (window.next % window.history) row) }
+        ensures { Means all_texts RowTextsOk self.new (set self.old.items (window.next % window.history) row) }
     {
-        let s = window.slot(window.next);
-        let mut xs = self;
-        xs.items[s] = row;
-        xs
+        self.items[window.slot(window.next)] = row;
     }
 
     // The text of the row at an index, oldest first.
-    pub fn disassembly(self, window: Window, index: usize) -> MaybeText
+    pub fn disassembly(&self, window: Window, index: usize) -> Option<Text>
         requires window_ok { WindowOk window }
-        requires row_texts_ok { RowTextsOk self }
-        ensures { ShowsText window self index result }
+        requires row_texts_ok { RowTextsOk self.now }
+        ensures { ShowsText window self.now index result }
     {
         if window.held <= index {
-            return MaybeText::none();
+            return None;
         }
         let s = window.slot(window.id_at(index));
-        let x = self.items[s];
-        let text = x.disassembly;
-        MaybeText { some: true, text }
+        Some(self.items[s].disassembly)
     }
 }
 
 // Timeline::row: the numbers of the row at an index, oldest first.
-pub fn row(window: Window, tracks: Tracks, texts: RowTexts, index: usize) -> MaybeRow
+pub fn row(
+    window: Window,
+    tracks: &Tracks,
+    texts: &RowTexts,
+    index: usize,
+) -> Option<PipelineTimelineRow>
     requires window_ok { WindowOk window }
-    requires tracks_ok { TracksOk tracks }
-    requires row_texts_ok { RowTextsOk texts }
-    ensures { ShowsRow (nth (view_rows window tracks texts) index) result }
+    requires tracks_ok { TracksOk tracks.now }
+    requires row_texts_ok { RowTextsOk texts.now }
+    ensures { ShowsRow (slice_get (view_rows window tracks.now texts.now) index) result }
 {
     if window.held <= index {
-        return MaybeRow::Nothing;
+        return None;
     }
     let id = window.id_at(index);
     let s = window.slot(id);
-    let t = tracks.items[s];
-    let x = texts.items[s];
-    let class = x.class;
-    MaybeRow::Some(PipelineTimelineRow {
+    let t = &tracks.items[s];
+    let x = &texts.items[s];
+    Some(PipelineTimelineRow {
         id,
         address: x.address,
-        class,
+        class: x.class,
         first_cycle: t.first_cycle,
         cells: t.cells,
         atomic: x.atomic,

@@ -1,16 +1,15 @@
 -- The words of a wait's text, and its form.
 use Prim.Native.Nat.{ℕ}
-use mathlib.Core.Path.{◌≡◌, sym, ap, ap₂, ◌∙◌}
-use mathlib.Core.Option.{some}
+use mathlib.Core.Path.{◌≡◌, ap₂, ◌∙◌}
+use Rattle.std.specs.Prelude.{Some}
 use mathlib.Core.List.{List, [], ◌∷◌}
 use Rattle.laws.specs.Texts.{Text, utf8, bytes}
 use Rattle.op.specs.FirstWord.{word_or}
 use Rattle.op.proofs.FirstWord.{first-words}
 use Rattle.model.specs.Op.{first_word}
 use Rattle.model.specs.Traces.{render}
-use Rattle.traces.specs.declared.texts.Written.{Written}
 use Rattle.timeline.specs.declared.WaitForm.{WaitForm}
-use Rattle.traces.specs.Texts.{Wrote}
+use Rattle.traces.specs.Texts.{Written, Wrote}
 use Rattle.timeline.specs.Waits.{detail_of}
 use Rattle.traces.proofs.Written.{wrote_as}
 
@@ -19,13 +18,8 @@ pub question : {m : Text} (mine : Text) → m ≡ word_or (63 ∷ []) mine → m
 unfolding bytes utf8
 question mine e = e ∙ first-words.lent mine
 
--- f is the form that was told.
-pub wrote-form : {form f : WaitForm} (m r o : Text) (t : ℕ) {lent out : List ℕ} {w : Written} → form ≡ f
-    → Wrote (some (render (detail_of f m r o t))) lent out w → Wrote (some (render (detail_of form m r o t))) lent out w
-wrote-form m r o t e = wrote_as (sym (ap (λ g. render (detail_of g m r o t)) e))
-
 -- m and o are the words that were found.
 pub wrote-words : (form : WaitForm) (mine r other : Text) (t : ℕ) {m o : Text} {lent out : List ℕ} {w : Written} → m ≡ first_word mine
-    → o ≡ first_word other → Wrote (some (render (detail_of form m r o t))) lent out w
-    → Wrote (some (render (detail_of form (first_word mine) r (first_word other) t))) lent out w
+    → o ≡ first_word other → Wrote (Some (render (detail_of form m r o t))) lent out w
+    → Wrote (Some (render (detail_of form (first_word mine) r (first_word other) t))) lent out w
 wrote-words form mine r other t p q = wrote_as (ap₂ (λ x y. render (detail_of form x r y t)) p q)

@@ -1,19 +1,10 @@
 // Texts written to a lent buffer: put together from parts, a number's digits among them.
-ghost use Rattle.std.specs.Prelude.{◌≡◌, [], ◌++◌, ◌+◌, ◌<◌, ◌≤◌, ltb, length};
-ghost use Rattle.std.proofs.Math.Option.{some};
+ghost use Rattle.std.specs.Prelude.{◌≡◌, [], ◌++◌, ◌+◌, ◌<◌, ◌≤◌, length};
+ghost use Rattle.std.specs.List.{flat_map};
 ghost use Rattle.laws.specs.Texts.{digit, digits_before, decimal, hexadecimal};
-ghost use Rattle.traces.specs.Texts.{Laid, Wrote, IsDigits, six};
+ghost use Rattle.traces.specs.Texts.{Laid, Wrote, IsDigits};
 
-// The answer to a text request.
-#[derive(Drop)]
-pub enum Written {
-    // How many bytes stand at the front of the buffer.
-    Bytes(usize),
-    // There is no such text.
-    Nothing,
-    // The number for no.
-    Refused(u8),
-}
+use capability::Refusal;
 
 // The digits of a number, from `at` on.
 #[derive(Drop)]
@@ -23,103 +14,43 @@ pub struct Digits {
 }
 
 // A slice at a place of the buffer; the next place.
+#[tactic(auto, using(timeline::proofs::Memory::put_splice))]
 pub fn put(out: &mut [u8], at: usize, s: &[u8]) -> usize
     requires { at + length s.now ≤ length out.old }
     ensures { Laid at s.now out.old out.new result }
 {
-    let n = s.len();
-    let mut i: usize = 0;
-    while i < n {
-        out[at + i] = s[i];
-        i += 1;
-    }
-    at + n
+    let end = at + s.len();
+    out[at..end].copy_from_slice(s);
+    end
 }
 
-// Three slices, one after the other.
-fn put_three(out: &mut [u8], at: usize, a: &[u8], b: &[u8], c: &[u8]) -> usize
-    requires { at + (length a.now + (length b.now + length c.now)) ≤ length out.old }
-    ensures { Laid at (a.now ++ (b.now ++ c.now)) out.old out.new result }
+// Texts, one after the other: how many bytes they are. Nothing is written where the buffer is short.
+pub fn write_parts(parts: &[&[u8]], out: &mut [u8]) -> Result<Option<usize>, Refusal>
+    ensures { Wrote (Some (flat_map (λ p. p.now) parts.now)) out.old out.new result }
 {
-    let at_b = put(out, at, a);
-    let at_c = put(out, at_b, b);
-    put(out, at_c, c)
-}
-
-// Whether six lengths together are more than there is room for.
-fn is_short(room: usize, a: usize, b: usize, c: usize, d: usize, e: usize, f: usize) -> bool
-    ensures { result ≡ ltb room (a + (b + (c + (d + (e + f))))) }
-{
-    if room < a {
-        return true;
+    let mut room = out.len();
+    for part in parts {
+        if room < part.len() {
+            return Err(Refusal::ShortMemory);
+        }
+        room -= part.len();
     }
-    let after_a = room - a;
-    if after_a < b {
-        return true;
+    let mut at = 0;
+    for part in parts {
+        at = put(out, at, part);
     }
-    let after_b = after_a - b;
-    if after_b < c {
-        return true;
-    }
-    let after_c = after_b - c;
-    if after_c < d {
-        return true;
-    }
-    let after_d = after_c - d;
-    if after_d < e {
-        return true;
-    }
-    after_d - e < f
-}
-
-// Six parts, one after the other; 13 where the buffer is short.
-pub fn write_parts(
-    a: &[u8],
-    b: &[u8],
-    c: &[u8],
-    d: &[u8],
-    e: &[u8],
-    f: &[u8],
-    out: &mut [u8],
-) -> Written
-    ensures { Wrote (some (six a.now b.now c.now d.now e.now f.now)) out.old out.new result }
-{
-    if is_short(
-        out.len(),
-        a.len(),
-        b.len(),
-        c.len(),
-        d.len(),
-        e.len(),
-        f.len(),
-    ) {
-        return Written::Refused(13);
-    }
-    let half = put_three(out, 0, a, b, c);
-    let n = put_three(out, half, d, e, f);
-    Written::Bytes(n)
-}
-
-// Three parts.
-pub fn write_three(a: &[u8], b: &[u8], c: &[u8], out: &mut [u8]) -> Written
-    ensures { Wrote (some (a.now ++ (b.now ++ c.now))) out.old out.new result }
-{
-    let none = &a[..0];
-    write_parts(a, b, c, none, none, none, out)
+    Ok(Some(at))
 }
 
 // A text as it stands.
-pub fn write_text(s: &[u8], out: &mut [u8]) -> Written
-    ensures { Wrote (some s.now) out.old out.new result }
+pub fn write_text(s: &[u8], out: &mut [u8]) -> Result<Option<usize>, Refusal>
+    ensures { Wrote (Some s.now) out.old out.new result }
 {
-    if out.len() < s.len() {
-        return Written::Refused(13);
-    }
-    let n = put(out, 0, s);
-    Written::Bytes(n)
+    write_parts(&[s], out)
 }
 
 // A digit: 0 to 9, then capitals.
+#[tactic(auto, unfolding(laws::specs::Texts::digit))]
 fn digit_of(d: u64) -> u8
     requires { d < 16 }
     ensures { result ≡ digit d }
@@ -135,9 +66,10 @@ pub fn digits_of(n: u64, base: u64) -> Digits
     let mut bytes = [0u8; 20];
     let mut at: usize = 19;
     let mut x = n;
+    // Kept: the number decides how many digits there are, so a range would need a way out and an answer past its end.
     while x >= base {
         bytes[at] = digit_of(x % base);
-        x = x / base;
+        x /= base;
         at -= 1;
     }
     bytes[at] = digit_of(x % base);
@@ -145,27 +77,30 @@ pub fn digits_of(n: u64, base: u64) -> Digits
 }
 
 // A text and a number behind it.
-fn write_number(name: &[u8], number: u64, base: u64, out: &mut [u8]) -> Written
+fn write_number(
+    name: &[u8],
+    number: u64,
+    base: u64,
+    out: &mut [u8],
+) -> Result<Option<usize>, Refusal>
     requires { (10 ≤ base) × (base ≤ 16) }
-    ensures { Wrote (some (name.now ++ digits_before base 19 number [])) out.old out.new result }
+    ensures { Wrote (Some (name.now ++ digits_before base 19 number [])) out.old out.new result }
 {
-    let none = &name[..0];
     let d = digits_of(number, base);
-    let bytes = d.bytes;
-    let at = d.at;
-    write_parts(name, &bytes[at..], none, none, none, none, out)
+    write_parts(&[name, &d.bytes[d.at..]], out)
 }
 
 // A station's label: format!("{}{instance}", spec.name).
-pub fn write_label(name: &[u8], number: usize, out: &mut [u8]) -> Written
-    ensures { Wrote (some (name.now ++ decimal number)) out.old out.new result }
+#[tactic(auto, unfolding(laws::specs::Texts::decimal))]
+pub fn write_label(name: &[u8], number: usize, out: &mut [u8]) -> Result<Option<usize>, Refusal>
+    ensures { Wrote (Some (name.now ++ decimal number)) out.old out.new result }
 {
     write_number(name, number as u64, 10, out)
 }
 
 // A text and a number in hexadecimal behind it.
-pub fn write_hex(name: &[u8], number: u64, out: &mut [u8]) -> Written
-    ensures { Wrote (some (name.now ++ hexadecimal number)) out.old out.new result }
+pub fn write_hex(name: &[u8], number: u64, out: &mut [u8]) -> Result<Option<usize>, Refusal>
+    ensures { Wrote (Some (name.now ++ hexadecimal number)) out.old out.new result }
 {
     write_number(name, number, 16, out)
 }

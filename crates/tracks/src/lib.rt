@@ -8,7 +8,7 @@ ghost use Rattle.timeline.specs.declared.RowTexts.{RowTexts};
 ghost use Rattle.timeline.specs.View.{first_track, view_rows, WindowOk, TracksOk, all_tracks, Pushed};
 ghost use Rattle.tracks.specs.View.{tracks_of, TracksSized, TracksLent, TrackAt, TrackPut, TracksHeld};
 
-use timeline::{Slot, Track, Tracks, Window, cells};
+use timeline::{Track, Tracks, Window};
 
 // ts[i] and its first cycle: `tracks.items[i]`.
 pub fn track_at(ts: &[[u8; 2]], fs: &[u64], i: usize) -> Track
@@ -30,8 +30,7 @@ pub fn put_track(ts: &mut [[u8; 2]], fs: &mut [u64], i: usize, t: Track)
     requires i_bound { i < 256 }
     ensures { TrackPut ts.old fs.old i t ts.new fs.new }
 {
-    let b = [t.cells, t.oldest];
-    ts[i] = b;
+    ts[i] = [t.cells, t.oldest];
     fs[i] = t.first_cycle;
 }
 
@@ -41,11 +40,8 @@ pub fn gathered(ts: &[[u8; 2]], fs: &[u64]) -> Tracks
     ensures { result ≡ tracks_of ts.now fs.now }
 {
     let mut tracks = Tracks::new();
-    let mut i: usize = 0;
-    while i < 256 {
-        let t = track_at(ts, fs, i);
-        tracks.items[i] = t;
-        i += 1;
+    for i in 0..256 {
+        tracks.items[i] = track_at(ts, fs, i);
     }
     tracks
 }
@@ -55,11 +51,8 @@ pub fn spread(tracks: Tracks, ts: &mut [[u8; 2]], fs: &mut [u64])
     requires { TracksSized ts.old fs.old }
     ensures { TracksHeld ts.new fs.new tracks }
 {
-    let mut at: usize = 0;
-    while at < 256 {
-        let t = tracks.items[at];
-        put_track(ts, fs, at, t);
-        at += 1;
+    for (at, t) in tracks.items.iter().enumerate() {
+        put_track(ts, fs, at, *t);
     }
 }
 
@@ -74,10 +67,9 @@ pub fn open(ts: &mut [[u8; 2]], fs: &mut [u64], window: Window, cycle: u64, cell
 {
     let s = window.slot(window.next);
     let at = s * 200;
-    cells::fill(cells, at, 200, 255);
+    cells[at..at + 200].fill(255);
     cells[at] = 0;
-    let t = Track::first(cycle);
-    put_track(ts, fs, s, t);
+    put_track(ts, fs, s, Track::first(cycle));
 }
 
 // Timeline::push: a cell's byte to the row of an id; nothing where it is no longer held.
@@ -89,10 +81,9 @@ pub fn push(ts: &mut [[u8; 2]], fs: &mut [u64], window: Window, id: u64, byte: u
     ensures memory { (xs : RowTexts) → cells.new ≡ write_all (push_writes window.history id byte (view_rows window (tracks_of ts.old fs.old) xs)) cells.old }
     ensures lent { TracksLent ts.new fs.new }
 {
-    let found = window.find(id);
-    if let Slot::At(s) = found {
-        let t = track_at(ts, fs, s);
-        let u = t.push(s, byte, cells);
-        put_track(ts, fs, s, u);
+    if let Some(s) = window.find(id) {
+        let mut t = track_at(ts, fs, s);
+        t.push(s, byte, cells);
+        put_track(ts, fs, s, t);
     }
 }

@@ -2,17 +2,17 @@
 // The file stdout is the Rust's own output: harness/src/bin/wait_texts.rs drives its engine into each wait and prints what its views show.
 #![tactic(auto)]
 
+use capability::Refusal;
 use std::io;
 use timeline::WaitForm;
-use traces::texts::Written;
 
 const LONG: [u8; 64] = *b"abcdefghijklmnopqrstuvwxyzABCDEFGHIJKLMNOPQRSTUVWXYZ0123456789_-";
 
 const LONG_NAME: [u8; 16] = *b"sixteen_letters_";
 
 // What was written, and a line's end.
-fn line(rt: &impl Print, w: Written, out: &[u8]) -> io::Result<()> {
-    if let Written::Bytes(n) = w {
+fn line(rt: &impl Print, w: Result<Option<usize>, Refusal>, out: &[u8]) -> io::Result<()> {
+    if let Ok(Some(n)) = w {
         if n <= out.len() {
             rt.write_all(&out[..n])?;
         }

@@ -9,4 +9,4 @@ pub loop-i-init : goal.loop-i-init
 loop-i-init c = copied-first (parts-size track_of c.requires) (omega (arith, c.new-tracks.ensures.ok.size))
 
 pub loop-i-preserved : goal.loop-i-preserved
-loop-i-preserved c = gathered_next track_of c.requires c.loop-i.invariant c.loop-i-test.true c.track_at-t.ensures
+loop-i-preserved c = gathered_next track_of c.requires c.loop-i.invariant c.loop-i-test.true c.track_at.ensures

@@ -10,7 +10,7 @@ pub loop-at-init : goal.loop-at-init
 loop-at-init c = spread-first track_of (search rules) c.requires
 
 pub loop-at-preserved : goal.loop-at-preserved
-loop-at-preserved c = spread-next track_of c.loop-at.invariant _ (omega (arith, c.loop-at-test.true)) c.put_track.ensures
+loop-at-preserved c = spread-next track_of c.loop-at.invariant _ (omega arith) c.put_track.ensures
 
 pub returns : goal.returns
 returns c = let e = c.loop-at.invariant in

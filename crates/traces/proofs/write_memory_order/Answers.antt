@@ -1,8 +1,0 @@
--- The four parts are the text.
-use Rattle.laws.specs.Texts.{bytes, utf8}
-use Rattle.model.specs.Traces.{render}
-use Rattle.traces.proofs.write_memory_order.Goals as goal
-
-pub returns : goal.returns
-unfolding render bytes utf8
-returns c = c.write_parts.ensures
