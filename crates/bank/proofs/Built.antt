@@ -1,21 +1,23 @@
 -- The units of a machine, kind by kind.
-use Prim.Native.Nat.{ℕ, zero, suc, ◌+◌, ◌≤◌, ◌<◌}
-use mathlib.Core.Path.{◌≡◌, sym, ap, ap₂, ◌∙◌}
-use mathlib.Core.List.{List, [], ◌∷◌, ◌++◌, map, append_assoc, append-nil}
-use native.Mathlib.Nat.{add-zero, zero-add}
-use native.Mathlib.Numerals.{add-one}
-use native.Mathlib.Omega.{arith}
-use lib.ListN.{length, take, drop, set, replicate, replicate-append-replicate, length-append, length-replicate}
-use Rattle.laws.proofs.Slices.{Seen, Array, array-first, array-set}
-use Rattle.laws.proofs.Shift.{view-pushed}
+use Rattle.std.proofs.Common.{ℕ, zero, suc, ◌+◌, ◌≤◌, ◌<◌, ◌≡◌, sym, ap, subst, ◌∙◌, map, get_or, List, [], ◌∷◌, ◌++◌, append_assoc, arith, length, take, drop, set, replicate, add-zero, zero-add, add-one}
+use mathlib.Core.Path.{ap₂}
+use mathlib.Core.List.{append-nil}
+use lib.ListN.{replicate-append-replicate, length-append, length-replicate}
+use lib.Seq.{length-take-le}
+use Rattle.std.proofs.lemmas.List.{get_or-take}
+use Rattle.laws.proofs.Slices.{Seen, view-next}
+use Rattle.config.specs.declared.Machine.{Machine}
+use Rattle.config.specs.declared.Spec.{Spec}
+use Rattle.config.specs.Kept.{MachineOk}
+use Rattle.config.specs.View.{view_spec, view_specs, view_machine}
 use Rattle.model.specs.Config.{UnitSpec, capacities}
 use Rattle.model.specs.Units.{idle_unit, instances, build_units}
 use Rattle.flight.specs.View.{Legend}
 use Rattle.units.specs.declared.Unit.{Unit as Slot}
-use Rattle.units.specs.View.{view_unit, UnitOk, UnitIs}
+use Rattle.units.specs.View.{UnitIs}
 use Rattle.bank.specs.declared.Units.{Units}
 use Rattle.bank.specs.View.{view_units, places, UnitsOk, UnitsAre}
-use Rattle.bank.proofs.Steps.{places-length}
+use Rattle.bank.proofs.Steps.{places-length, units-so, units-pushed}
 
 -- ── The instances of a kind ─────────────────────────────────────────────────
 
@@ -29,57 +31,37 @@ instances-snoc spec j (suc n) =
 
 -- The first i of them stand behind those that were there.
 pub record Adding (spec : ℕ) (us₀ us : Units) (i : ℕ) : Type 0 where
-  pub array : Array UnitOk us₀.items us.items
-  pub is : (g : Legend) → take (us₀.len + i) (map (view_unit g) us.items) ≡ view_units g us₀ ++ instances spec 0 i
-  pub places : take (us₀.len + i) (map (λ (u : Slot). u.place) us.items) ≡ places us₀ ++ replicate i 80
+  pub len : us.len ≡ us₀.len + i
+  pub are : UnitsAre us (λ g. view_units g us₀ ++ instances spec 0 i) (places us₀ ++ replicate i 80)
 
-module _ {spec : ℕ} {us₀ : Units} (ok : UnitsOk us₀) where
-  pub adding-first : Adding spec us₀ us₀ 0
-  unfolding view_units places instances
-  adding-first =
+module _ {spec : ℕ} {us₀ : Units} where
+  pub adding-first : UnitsOk us₀ → Adding spec us₀ us₀ 0
+  unfolding instances
+  adding-first ok =
       record {
-        array = array-first ok.each;
-        is = λ g. rw add-zero (sym (append-nil (view_units g us₀)));
-        places = rw add-zero (sym (append-nil (places us₀)));
+        len = sym (add-zero us₀.len);
+        are = record { is = λ g. sym (append-nil (view_units g us₀)); places = sym (append-nil (places us₀)); ok = ok };
       }
 
-  module _ {us : Units} {i : ℕ} (e : Adding spec us₀ us i) where
-    pub adding-size : length us.items ≡ 64
-    adding-size = e.array.size ∙ ok.size
+  pub adding-next : {us : Units} {i : ℕ} {x : Slot} → Adding spec us₀ us i → us.len < 64 → UnitIs x (λ g. idle_unit spec i) 80
+      → Adding spec us₀ (record { items = set us.items us.len x; len = us.len + 1 }) (i + 1)
+  adding-next {us} {i} {x} e h m =
+      record {
+        len = omega (arith, e.len);
+        are =
+            units-so (units-pushed e.are.ok h m)
+            (λ g.
+            ap (λ l. l ++ idle_unit spec i ∷ []) (e.are.is g)
+            ∙ append_assoc (view_units g us₀) (instances spec 0 i) (idle_unit spec i ∷ [])
+            ∙ ap (λ t. view_units g us₀ ++ t)
+            (sym (ap (instances spec 0) (add-one i) ∙ instances-snoc spec 0 i ∙ ap (λ k. instances spec 0 i ++ idle_unit spec k ∷ []) (zero-add i))))
+            (ap (λ l. l ++ 80 ∷ []) e.are.places
+            ∙ append_assoc (places us₀) (replicate i 80) (80 ∷ [])
+            ∙ ap (λ t. places us₀ ++ t) (replicate-append-replicate i 1 80));
+      }
 
-    pub adding-next : {x : Slot} {at : ℕ} → at ≡ us₀.len + i → at < 64 → UnitIs x (λ g. idle_unit spec i) 80
-        → Adding spec us₀ (record { items = set us.items at x; len = us.len }) (i + 1)
-    unfolding view_units places
-    adding-next {x} {at} q h m =
-        let here : at < length us.items = omega (arith, adding-size) in
-        let count : us₀.len + (i + 1) ≡ at + 1 = omega arith in
-        record {
-          array = array-set e.array at m.ok;
-          is = λ g.
-              ap (λ n. take n (map (view_unit g) (set us.items at x))) count
-              ∙ view-pushed (view_unit g) us.items at x here
-              ∙ ap₂ (λ l y. l ++ y ∷ []) (ap (λ n. take n (map (view_unit g) us.items)) q ∙ e.is g) (m.is g)
-              ∙ append_assoc (view_units g us₀) (instances spec 0 i) (idle_unit spec i ∷ [])
-              ∙ ap (λ t. view_units g us₀ ++ t)
-              (sym (ap (instances spec 0) (add-one i) ∙ instances-snoc spec 0 i ∙ ap (λ k. instances spec 0 i ++ idle_unit spec k ∷ []) (zero-add i)));
-          places =
-              ap (λ n. take n (map (λ (u : Slot). u.place) (set us.items at x))) count
-              ∙ view-pushed (λ (u : Slot). u.place) us.items at x here
-              ∙ ap₂ (λ l y. l ++ y ∷ []) (ap (λ n. take n (map (λ (u : Slot). u.place) us.items)) q ∙ e.places) m.place
-              ∙ append_assoc (places us₀) (replicate i 80) (80 ∷ [])
-              ∙ ap (λ t. places us₀ ++ t) (replicate-append-replicate i 1 80);
-        }
-
-    pub adding-last : {n k : ℕ} → i ≡ n → k ≡ us₀.len + n → k ≤ 64
-        → UnitsAre (record { items = us.items; len = k }) (λ g. view_units g us₀ ++ instances spec 0 n) (places us₀ ++ replicate n 80)
-    unfolding view_units places
-    adding-last {n} {k} q p h =
-        let count : k ≡ us₀.len + i = omega arith in
-        record {
-          is = λ g. ap (λ m. take m (map (view_unit g) us.items)) count ∙ e.is g ∙ ap (λ m. view_units g us₀ ++ instances spec 0 m) q;
-          places = ap (λ m. take m (map (λ (u : Slot). u.place) us.items)) count ∙ e.places ∙ ap (λ m. places us₀ ++ replicate m 80) q;
-          ok = record { few = h; size = adding-size; each = e.array.each };
-        }
+  pub adding-last : {us : Units} {i n : ℕ} → Adding spec us₀ us i → i ≡ n → UnitsAre us (λ g. view_units g us₀ ++ instances spec 0 n) (places us₀ ++ replicate n 80)
+  adding-last e q = units-so e.are (λ g. ap (λ k. view_units g us₀ ++ instances spec 0 k) q) (ap (λ k. places us₀ ++ replicate k 80) q)
 
 -- ── The kinds ───────────────────────────────────────────────────────────────
 
@@ -146,3 +128,22 @@ module _ {ks : List UnitSpec} {us : Units} {n i : ℕ} (e : Building ks us n i) 
         places = sym (append-nil (places us)) ∙ ap (λ t. places us ++ replicate (capacities t) 80) (sym d) ∙ e.places;
         ok = e.ok;
       }
+
+-- ── The kinds that a machine keeps ──────────────────────────────────────────
+
+module _ {m : Machine} (ok : MachineOk m) where
+  pub kinds-length : length (take m.specs_len m.specs) ≡ m.specs_len
+  kinds-length = length-take-le m.specs_len m.specs (omega (arith, ok.few, ok.specs.size))
+
+  pub kind-seen : (d : Spec) {i : ℕ} → i < length (take m.specs_len m.specs)
+      → Seen (view_machine m).specs m.specs_len i (view_spec (get_or (take m.specs_len m.specs) i d))
+  unfolding view_machine view_specs
+  kind-seen d {i} h =
+      let few : i < m.specs_len = omega (arith, kinds-length) in
+      subst (λ (k : Spec). Seen (take m.specs_len (map view_spec m.specs)) m.specs_len i (view_spec k)) (sym (get_or-take m.specs_len m.specs i d few))
+      (view-next view_spec m.specs d (omega (arith, ok.few, ok.specs.size)) few)
+
+  pub kind-room : {us : Units} {i : ℕ} → Building (view_machine m).specs us m.specs_len i → (d : Spec) → i < length (take m.specs_len m.specs)
+      → us.len + (get_or (take m.specs_len m.specs) i d).capacity ≤ 64
+  unfolding view_spec
+  kind-room e d h = omega (arith, ok.units, building-room e (kind-seen d h))

@@ -2,8 +2,8 @@
 use Rattle.std.specs.Prelude.{ℕ, ◌≤◌, ◌<◌, ◌≡◌, List, map, length, take}
 use Rattle.laws.specs.Lists.{All}
 use Rattle.model.specs.Units.{FunctionalUnit}
-use Rattle.registers.specs.View.{view_waits}
-use Rattle.flight.specs.View.{Legend, read, written}
+use Rattle.registers.specs.View.{view_waits, read, written}
+use Rattle.flight.specs.View.{Legend}
 use Rattle.units.specs.declared.Unit.{Unit as Slot}
 use Rattle.units.specs.View.{view_unit, UnitOk}
 use Rattle.bank.specs.declared.Units.{Units}

@@ -1,21 +1,18 @@
--- A queue is its entries: what they are settles what the queue is to the model, and the loops over it are loops over them.
-use Prim.Native.Nat.{ℕ, zero, suc, ◌+◌, ◌-◌, ◌≤◌, ◌<◌}
-use mathlib.Core.Path.{◌≡◌, refl, sym, ap, ◌∙◌}
-use mathlib.Core.List.{List, [], ◌∷◌, ◌++◌, map}
-use native.Mathlib.Omega.{arith}
-use lib.ListN.{length, get_or, set, take, length-set}
-use lib.Seq.{length-take-le}
+-- A queue is its entries: what they are settles what the queue is to the model.
+use Rattle.capability.specs.declared.PipelineHazardKind.{PipelineHazardKind}
+use Rattle.std.proofs.Common.{Option, None, ℕ, zero, suc, ◌+◌, ◌-◌, ◌≤◌, ◌<◌, ◌≡◌, refl, sym, ap, subst, ◌∙◌, List, [], ◌∷◌, ◌++◌, map, arith, length, get_or, set, take, drop, zero-add}
+use lib.ListN.{length-set, length-append, length-drop}
+use lib.Seq.{length-take-le, paste, length-paste, take-nil, take-paste, take_at}
+use Rattle.std.proofs.lemmas.List.{take_all}
 use Rattle.laws.specs.Lists.{All, rest, modify}
-use Rattle.laws.proofs.Slices.{Seen, slice-next, view-next, view-length, take-map, rest-drop, All-get_or, All-set, All-take, Array, array-first, array-set, array-read}
-use Rattle.laws.proofs.Map.{Changed, changed-first, changed-next, changed-map}
-use Rattle.laws.proofs.Maps.{map-append, map-swap, modify-map}
-use Rattle.laws.proofs.Shift.{pushed, Shifted, shifted-first, shifted_next, shifted-last}
+use Rattle.laws.proofs.Slices.{Seen, slice-next, view-next, view-length, take-map, All-get_or, All-set, All-take, All-drop, All-append, All-map}
+use Rattle.laws.proofs.Map.{Changed, changed-map}
+use Rattle.laws.proofs.Maps.{length-of, map-append, map-swap, modify-map}
+use Rattle.laws.proofs.Shift.{pushed}
 use Rattle.model.specs.Op.{Op, with_hazard}
-use Rattle.flight.specs.declared.MaybeHazard.{MaybeHazard}
-use Rattle.flight.specs.declared.MaybeHazard.TheVariants.{Nothing}
 use Rattle.flight.specs.declared.Queued.{Queued}
 use Rattle.flight.specs.declared.Queue.{Queue}
-use Rattle.flight.specs.View.{Legend, view_hazard, op_with, view_queued, view_queue, entries, QueuedOk, QueueOk}
+use Rattle.flight.specs.View.{Legend, op_with, view_queued, view_queue, entries, QueuedOk, QueueOk}
 use Rattle.flight.specs.Promises.{hazardous, Queues}
 
 -- ── What a queue means ──────────────────────────────────────────────────────
@@ -24,11 +21,11 @@ pub view-entries : (g : Legend) (q : Queue) → view_queue g q ≡ map (view_que
 unfolding view_queue entries
 view-entries g q = take-map (view_queued g) q.len q.items
 
-pub view-hazard : (g : Legend) (h : MaybeHazard) (x : Queued) → view_queued g (hazardous h x) ≡ with_hazard (view_hazard h) (view_queued g x)
+pub view-hazard : (g : Legend) (h : Option PipelineHazardKind) (x : Queued) → view_queued g (hazardous h x) ≡ with_hazard h (view_queued g x)
 unfolding view_queued op_with
 view-hazard g h x = refl
 
-pub hazardous-ok : (h : MaybeHazard) {x : Queued} → QueuedOk x → QueuedOk (hazardous h x)
+pub hazardous-ok : (h : Option PipelineHazardKind) {x : Queued} → QueuedOk x → QueuedOk (hazardous h x)
 hazardous-ok h o = record { operands = o.operands; place = o.place }
 
 module _ {q : Queue} (ok : QueueOk q) where
@@ -78,12 +75,22 @@ unfolding rest
 map-rest v [] = refl
 map-rest v (x ∷ xs) = refl
 
+rest-take : {A : Type 0} (n : ℕ) (l : List A) → take (n - 1) (drop 1 l) ≡ rest (take n l)
+unfolding rest
+rest-take zero l = refl
+rest-take (suc n) [] = take-nil (suc n - 1)
+rest-take (suc n) (x ∷ xs) = grind arith
+
 -- The first, changed: also where there is none.
 pub front-set : {A : Type 0} (f : A → A) (d : A) (n : ℕ) (l : List A) → take n (set l 0 (f (get_or l 0 d))) ≡ modify 0 f (take n l)
 unfolding modify
 front-set f d zero l = refl
 front-set f d (suc n) [] = refl
 front-set f d (suc n) (x ∷ xs) = refl
+
+-- A loop over all of a list.
+pub whole-changed : {f : Queued → Queued} {l₀ l : List Queued} {i : ℕ} → length l ≡ length l₀ → Changed (λ j. f) l₀ l (length l₀) i → length l₀ ≤ i → l ≡ map f l₀
+whole-changed {f} {l₀} {l} n e h = sym (take_all (length l₀) l (omega arith)) ∙ changed-map e h ∙ ap (map f) (take_all (length l₀) l₀ (omega arith))
 
 module _ {q : Queue} (ok : QueueOk q) where
   queue-set : (i : ℕ) {n : ℕ} {x : Queued} → n ≤ 16 → QueuedOk x → QueueOk (record { items = set q.items i x; len = n })
@@ -98,85 +105,64 @@ module _ {q : Queue} (ok : QueueOk q) where
       (pushed q.items q.len x (omega (arith, ok.size)) refl)
       (queue-set q.len (omega arith) p)
 
-  pub front-hazard : (h : MaybeHazard) (d : Queued) {x : Queued} → x ≡ hazardous h (get_or q.items 0 d)
-      → Queues (record { items = set q.items 0 x; len = q.len }) (modify 0 (hazardous h) (entries q))
-      (λ g. modify 0 (with_hazard (view_hazard h)) (view_queue g q))
+  pub front-hazard : (h : Option PipelineHazardKind) (d : Queued)
+      → Queues (record { items = set q.items 0 (hazardous h (get_or q.items 0 d)); len = q.len }) (modify 0 (hazardous h) (entries q))
+      (λ g. modify 0 (with_hazard h) (view_queue g q))
   unfolding entries
-  front-hazard h d {x} e =
-      queues-by q (modify 0 (hazardous h)) (λ g. modify 0 (with_hazard (view_hazard h)))
-      (λ g. modify-map (view_queued g) (hazardous h) (with_hazard (view_hazard h)) (view-hazard g h) 0)
-      (ap (λ y. take q.len (set q.items 0 y)) e ∙ front-set (hazardous h) d q.len q.items)
-      (queue-set 0 ok.few (rw e (hazardous-ok h (entry-ok ok d {i = 0} (omega arith)))))
+  front-hazard h d =
+      queues-by q (modify 0 (hazardous h)) (λ g. modify 0 (with_hazard h))
+      (λ g. modify-map (view_queued g) (hazardous h) (with_hazard h) (view-hazard g h) 0)
+      (front-set (hazardous h) d q.len q.items)
+      (queue-set 0 ok.few (hazardous-ok h (entry-ok ok d {i = 0} (omega arith))))
 
--- ── Loops over a queue ──────────────────────────────────────────────────────
+  -- Of each the hazard is gone.
+  pub cleared : {l : List Queued} → l ≡ map (hazardous None) (entries q)
+      → Queues (record { items = l ++ drop q.len q.items; len = q.len }) (map (hazardous None) (entries q)) (λ g. map (with_hazard None) (view_queue g q))
+  unfolding entries
+  cleared {l} e =
+      queues-by q (map (hazardous None)) (λ g. map (with_hazard None))
+      (λ g. map-swap (hazardous None) (view_queued g) (view_queued g) (with_hazard None) (view-hazard g None))
+      (front ∙ e)
+      (record { few = ok.few; size = size; each = All-append QueuedOk l (drop q.len q.items) each (All-drop QueuedOk q.len q.items ok.each) })
+    where
+      count : length l ≡ q.len
+      count = ap length e ∙ length-of (hazardous None) (entries q) ∙ entries-length ok
 
--- As many, and well formed.
-pub record Standing (q₀ q : Queue) : Type 0 where
-  pub len : q.len ≡ q₀.len
-  pub array : Array QueuedOk q₀.items q.items
+      front : entries (record { items = l ++ drop q.len q.items; len = q.len }) ≡ l
+      front = take_at l (drop q.len q.items) q.len count
 
-module _ {q₀ : Queue} (ok : QueueOk q₀) where
-  standing-first : Standing q₀ q₀
-  standing-first = record { len = refl; array = array-first ok.each }
+      size : length (l ++ drop q.len q.items) ≡ 16
+      size = simp (length-append, length-drop) (omega (arith, ok.few, ok.size, count))
 
-  standing-ok : {q : Queue} {n : ℕ} → Standing q₀ q → n ≤ 16 → QueueOk (record { items = q.items; len = n })
-  standing-ok s h = record { few = h; size = s.array.size ∙ ok.size; each = s.array.each }
+      each : All QueuedOk l
+      each = subst (All QueuedOk) (sym e) (All-map QueuedOk QueuedOk (hazardous None) (entries q) (λ x o. hazardous-ok None o) (entries-ok ok))
 
--- Of the first i the hazard is gone.
-pub record Clearing (q₀ q : Queue) (i : ℕ) : Type 0 where
-  pub standing : Standing q₀ q
-  pub is : Changed (λ j. hazardous Nothing) q₀.items q.items q₀.len i
+  -- The first is gone.
+  pub popped : {l : List Queued} → l ≡ paste q.items 0 (drop 1 q.items) (q.len - 1) → (q.len ≡ 0 → ⊥)
+      → Queues (record { items = l; len = q.len - 1 }) (rest (entries q)) (λ g. rest (view_queue g q))
+  unfolding entries
+  popped {l} e h =
+      queues-by q rest (λ g. rest) (λ g. map-rest (view_queued g)) (ap (take (q.len - 1)) e ∙ is)
+      (subst (λ (x : List Queued). QueueOk (record { items = x; len = q.len - 1 })) (sym e) (record {
+        few = omega (arith, ok.few);
+        size = length-paste q.items 0 (drop 1 q.items) (q.len - 1) (omega (arith, ok.few, ok.size)) short ∙ ok.size;
+        each =
+            All-append QueuedOk _ (drop (0 + (q.len - 1)) q.items)
+            (All-append QueuedOk (take 0 q.items) (take (q.len - 1) (drop 1 q.items)) tt (All-take QueuedOk (q.len - 1) (drop 1 q.items) (All-drop QueuedOk 1 q.items ok.each)))
+            (All-drop QueuedOk (0 + (q.len - 1)) q.items ok.each);
+      }))
+    where
+      short : q.len - 1 ≤ length (drop 1 q.items)
+      short = omega (arith, length-drop 1 q.items, ok.few, ok.size)
 
-module _ {q₀ : Queue} (ok : QueueOk q₀) where
-  pub clearing-first : Clearing q₀ q₀ 0
-  clearing-first = record { standing = standing-first ok; is = changed-first (room ok) }
+      is : take (q.len - 1) (paste q.items 0 (drop 1 q.items) (q.len - 1)) ≡ rest (take q.len q.items)
+      is =
+          ap (λ n. take n (paste q.items 0 (drop 1 q.items) (q.len - 1))) (sym (zero-add (q.len - 1)))
+          ∙ take-paste q.items 0 (drop 1 q.items) (q.len - 1) (omega arith) short
+          ∙ rest-take q.len q.items
 
-  module _ {q : Queue} {i : ℕ} (e : Clearing q₀ q i) where
-    pub clearing-next : (d : Queued) {x : Queued} → i < q₀.len → x ≡ hazardous Nothing (get_or q.items i d)
-        → Clearing q₀ (record { items = set q.items i x; len = q.len }) (i + 1)
-    clearing-next d {x} h p =
-        record {
-          standing = record { len = e.standing.len; array = array-set e.standing.array i (rw p (hazardous-ok Nothing (array-read e.standing.array d {i = i} (omega (arith, ok.few, ok.size))))) };
-          is = changed-next e.is d h p refl;
-        }
-
-    pub clearing-last : q₀.len ≤ i → Queues q (map (hazardous Nothing) (entries q₀)) (λ g. map (with_hazard (view_hazard Nothing)) (view_queue g q₀))
-    unfolding entries
-    clearing-last h =
-        queues-by q₀ (map (hazardous Nothing)) (λ g. map (with_hazard (view_hazard Nothing)))
-        (λ g. map-swap (hazardous Nothing) (view_queued g) (view_queued g) (with_hazard (view_hazard Nothing)) (view-hazard g Nothing))
-        (ap (λ n. take n q.items) e.standing.len ∙ changed-map e.is h)
-        (standing-ok ok e.standing (omega (arith, ok.few, e.standing.len)))
-
--- The first is gone, and those up to j have moved.
-pub record Popping (q₀ q : Queue) (j : ℕ) : Type 0 where
-  pub standing : Standing q₀ q
-  pub is : Shifted 0 q₀.items q.items q₀.len j
-
-module _ {q₀ : Queue} (ok : QueueOk q₀) where
-  pub popping-first : 0 < q₀.len → Popping q₀ q₀ 0
-  popping-first h = record { standing = standing-first ok; is = shifted-first h (room ok) }
-
-  module _ {q : Queue} {j : ℕ} (e : Popping q₀ q j) where
-    pub popping-next : (d : Queued) → j + 1 < q₀.len → Popping q₀ (record { items = set q.items j (get_or q.items (j + 1) d); len = q.len }) (j + 1)
-    popping-next d h =
-        record {
-          standing =
-              record {
-                len = e.standing.len;
-                array = array-set e.standing.array j (array-read e.standing.array d (omega (arith, ok.few, ok.size)));
-              };
-          is = shifted_next e.is d h refl refl;
-        }
-
-    pub popping-last : q₀.len ≤ j + 1 → Queues (record { items = q.items; len = q₀.len - 1 }) (rest (entries q₀)) (λ g. rest (view_queue g q₀))
-    unfolding entries
-    popping-last h =
-        queues-by q₀ rest (λ g. rest) (λ g. map-rest (view_queued g)) (shifted-last e.is h ∙ sym (rest-drop (entries q₀)))
-        (standing-ok ok e.standing (omega (arith, ok.few)))
-
--- There is none to take.
-pub popped-none : {q : Queue} → QueueOk q → q.len ≡ 0 → Queues q (rest (entries q)) (λ g. rest (view_queue g q))
-unfolding entries rest
-popped-none {q} ok e =
-    queues-by q rest (λ g. rest) (λ g. map-rest (view_queued g)) (let z : take q.len q.items ≡ [] = ap (λ n. take n q.items) e in z ∙ sym (ap rest z)) ok
+  -- There is none to take.
+  pub popped-none : q.len ≡ 0 → Queues q (rest (entries q)) (λ g. rest (view_queue g q))
+  unfolding entries rest
+  popped-none e =
+      queues-by q rest (λ g. rest) (λ g. map-rest (view_queued g)) (let z : take q.len q.items ≡ [] = ap (λ n. take n q.items) e in z ∙ sym (ap rest z)) ok

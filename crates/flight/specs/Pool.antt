@@ -1,9 +1,9 @@
 -- The pool: what a fetch writes to it, and what a place holds.
-use Rattle.std.specs.Prelude.{ℕ, ◌≤◌, ◌≡◌, false, true, cond, List, ltb, length, get_or, replicate}
+use Rattle.op.specs.declared.chars.Chars.{Chars}
+use Rattle.op.specs.Chars.{Fits}
+use Rattle.std.specs.Prelude.{ℕ, ◌≤◌, ◌≡◌, false, cond, List, ltb, length, get_or, replicate, None}
 use Rattle.laws.specs.Lists.{All}
 use Rattle.laws.specs.Texts.{Text as Bytes}
-use Rattle.op.specs.declared.Text.{Text}
-use Rattle.op.specs.declared.Name.{Name}
 use Rattle.op.specs.declared.PipelineOp.{PipelineOp}
 use Rattle.flight.specs.declared.pool.Decoded.{Decoded}
 use Rattle.flight.specs.declared.pool.Texts.{Texts}
@@ -25,19 +25,11 @@ texts_of o = record { disassembly = o.disassembly; fault = o.fault; destination 
 abbrev pub no_decoded : Decoded
 no_decoded = record { address = 0; length = 0; predicted_next = 0; payload = 0; atomic = false }
 
-abbrev pub no_bytes : Text
+abbrev pub no_bytes : Chars 64
 no_bytes = record { bytes = replicate 64 0; len = 0 }
 
-abbrev pub no_name : Name
-no_name = record { bytes = replicate 16 0; len = 0 }
-
 abbrev pub no_texts : Texts
-no_texts =
-    record {
-      disassembly = no_bytes;
-      fault = record { some = false; text = no_bytes };
-      destination = record { some = false; name = no_name };
-    }
+no_texts = record { disassembly = no_bytes; fault = None; destination = None }
 
 -- ── A place ─────────────────────────────────────────────────────────────────
 
@@ -61,8 +53,8 @@ decoded_at ds place = cond (ltb place 80) (get_or ds.items place no_decoded) no_
 -- A text that is kept is one that a fetch takes: it fits its array.
 pub record TextsOk (t : Texts) : Type 0 where
   pub text : t.disassembly.len ≤ 64
-  pub fault : t.fault.some ≡ true → t.fault.text.len ≤ 64
-  pub destination : t.destination.some ≡ true → t.destination.name.len ≤ 16
+  pub fault : Fits t.fault
+  pub destination : Fits t.destination
 
 pub record DecodedPoolOk (p : DecodedPool) : Type 0 where
   pub size : length p.items ≡ 80

@@ -1,17 +1,13 @@
 -- What the functions of a queue hand back: each entry, and so the model's operations whatever the legend.
-use Rattle.std.specs.Prelude.{◌≡◌, List, []}
+use Rattle.capability.specs.declared.PipelineHazardKind.{PipelineHazardKind}
+use Rattle.std.specs.Prelude.{◌≡◌, List, Option}
 use Rattle.model.specs.Op.{Op}
-use Rattle.registers.specs.Look.{Numbers}
-use Rattle.flight.specs.declared.MaybeHazard.{MaybeHazard}
 use Rattle.flight.specs.declared.Queued.{Queued}
 use Rattle.flight.specs.declared.Queue.{Queue}
 use Rattle.flight.specs.View.{Legend, view_queue, entries, QueueOk}
 
-abbrev pub no_operands : Numbers
-no_operands = record { read = []; written = [] }
-
 -- The entry with another hazard.
-abbrev pub hazardous : MaybeHazard → Queued → Queued
+abbrev pub hazardous : Option PipelineHazardKind → Queued → Queued
 hazardous h q =
     record {
       seq = q.seq;

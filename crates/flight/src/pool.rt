@@ -3,7 +3,7 @@ ghost use Rattle.std.specs.Prelude.{◌≡◌, replicate};
 ghost use Rattle.laws.specs.Means.{Means};
 ghost use Rattle.flight.specs.Pool.{decoded_of, texts_of, no_decoded, no_texts, all_decoded, all_texts, decoded_at, DecodedPoolOk, TextPoolOk};
 
-use op::{MaybeName, MaybeText, Name, PipelineOp, Text};
+use op::{Name, PipelineOp, Text};
 
 // Numbers of an operation that no decision of a cycle reads.
 #[derive(Clone, Copy)]
@@ -19,8 +19,8 @@ pub struct Decoded {
 #[derive(Clone, Copy)]
 pub struct Texts {
     pub disassembly: Text,
-    pub fault: MaybeText,
-    pub destination: MaybeName,
+    pub fault: Option<Text>,
+    pub destination: Option<Name>,
 }
 
 #[derive(Clone, Copy)]
@@ -33,9 +33,18 @@ pub struct TextPool {
     pub items: [Texts; 80],
 }
 
+// What no operation carries.
+const NOTHING: Decoded = Decoded {
+    address: 0,
+    length: 0,
+    predicted_next: 0,
+    payload: 0,
+    atomic: false,
+};
+
 impl Decoded {
-    pub fn of(op: PipelineOp, predicted_next: u64) -> Decoded
-        ensures { result ≡ decoded_of op predicted_next }
+    pub fn of(op: &PipelineOp, predicted_next: u64) -> Decoded
+        ensures { result ≡ decoded_of op.now predicted_next }
     {
         Decoded {
             address: op.address,
@@ -48,16 +57,13 @@ impl Decoded {
 }
 
 impl Texts {
-    pub fn of(op: PipelineOp) -> Texts
-        ensures { result ≡ texts_of op }
+    pub fn of(op: &PipelineOp) -> Texts
+        ensures { result ≡ texts_of op.now }
     {
-        let disassembly = op.disassembly;
-        let fault = op.fault;
-        let destination = op.destination;
         Texts {
-            disassembly,
-            fault,
-            destination,
+            disassembly: op.disassembly,
+            fault: op.fault,
+            destination: op.destination,
         }
     }
 }
@@ -66,32 +72,18 @@ impl DecodedPool {
     pub fn new() -> DecodedPool
         ensures { Means all_decoded DecodedPoolOk result (replicate 80 no_decoded) }
     {
-        let d = Decoded {
-            address: 0,
-            length: 0,
-            predicted_next: 0,
-            payload: 0,
-            atomic: false,
-        };
-        DecodedPool { items: [d; 80] }
+        DecodedPool {
+            items: [NOTHING; 80],
+        }
     }
 
+    #[tactic(auto, using(crate::proofs::Places::decoded_there))]
     // The numbers at a place; place 80 is that of no operation.
-    pub fn at(self, place: u8) -> Decoded
-        requires { DecodedPoolOk self }
-        ensures { result ≡ decoded_at self place }
+    pub fn at(&self, place: u8) -> Decoded
+        requires { DecodedPoolOk self.now }
+        ensures { result ≡ decoded_at self.now place }
     {
-        let at = place as usize;
-        if at < 80 {
-            return self.items[at];
-        }
-        Decoded {
-            address: 0,
-            length: 0,
-            predicted_next: 0,
-            payload: 0,
-            atomic: false,
-        }
+        self.items.get(place as usize).copied().unwrap_or(NOTHING)
     }
 }
 
@@ -99,24 +91,14 @@ impl TextPool {
     pub fn new() -> TextPool
         ensures { Means all_texts TextPoolOk result (replicate 80 no_texts) }
     {
-        let disassembly = Text {
-            bytes: [0; 64],
-            len: 0,
+        let none = Texts {
+            disassembly: Text {
+                bytes: [0; 64],
+                len: 0,
+            },
+            fault: None,
+            destination: None,
         };
-        let fault = MaybeText {
-            some: false,
-            text: disassembly,
-        };
-        let name = Name {
-            bytes: [0; 16],
-            len: 0,
-        };
-        let destination = MaybeName { some: false, name };
-        let t = Texts {
-            disassembly,
-            fault,
-            destination,
-        };
-        TextPool { items: [t; 80] }
+        TextPool { items: [none; 80] }
     }
 }

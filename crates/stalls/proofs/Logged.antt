@@ -4,7 +4,7 @@ use mathlib.Core.Path.{◌≡◌, refl, ap, ap₂, ◌∙◌}
 use mathlib.Core.Bool.{false}
 use mathlib.Core.List.{List, [], ◌∷◌, ◌++◌, map}
 use native.Mathlib.Omega.{arith}
-use lib.ListN.{length, get_or, set, length-set}
+use lib.ListN.{length, get_or, set, take}
 use lib.Seq.{length-take-le}
 use Rattle.laws.specs.Lists.{All}
 use Rattle.laws.specs.Texts.{Text}
@@ -15,18 +15,7 @@ use Rattle.capability.specs.declared.PipelineHazardKind.TheVariants.{BranchFlush
 use Rattle.model.specs.State.{Stats, Log as ModelLog, log_of, count_stall, count_stalls, stall_all, with_stats, with_traces}
 use Rattle.model.specs.Traces.{trace_of, redirect_to, FETCH, WRITE}
 use Rattle.timeline.specs.declared.WaitForm.{WaitForm}
-use Rattle.timeline.specs.declared.WaitForm.TheVariants.{
-  Overwrites,
-  MemoryOrder,
-  Drains,
-  WaitsFor,
-  WaitsForOlder,
-  BehindBranch,
-  BehindSystem,
-  StillWrites,
-  AllBusy,
-  RedirectTo,
-}
+use Rattle.timeline.specs.declared.WaitForm.TheVariants.{Overwrites, MemoryOrder, Drains, WaitsFor, WaitsForOlder, BehindBranch, BehindSystem, StillWrites, AllBusy, RedirectTo}
 use Rattle.timeline.specs.Waits.{detail_of}
 use Rattle.stalls.specs.declared.Trace.{Trace}
 use Rattle.stalls.specs.declared.TraceList.{TraceList}
@@ -49,15 +38,8 @@ module _ {t : TraceList} (ok : TraceListOk t) where
   unfolding listed
   listed_next d h = slice-next t.items d (omega (arith, ok.few, ok.size)) h
 
-  pub list_pushed : (x : Trace) → t.len < 130
-      → Lists (record { items = set t.items t.len x; len = t.len + 1; target = t.target }) (listed t ++ x ∷ []) t.target
-  unfolding listed
-  list_pushed x h =
-      record {
-        waits = pushed t.items t.len x (omega (arith, ok.size)) refl;
-        target = refl;
-        ok = record { few = omega arith; size = length-set t.items t.len x ∙ ok.size };
-      }
+pub take_pushed : (l : List Trace) (n : ℕ) (x : Trace) → n < length l → take (n + 1) (set l n x) ≡ take n l ++ x ∷ []
+take_pushed l n x h = pushed l n x h refl
 
 -- The same waits with another target.
 pub list-target : {t : TraceList} {l : List Trace} {to : ℕ} (n : ℕ) → Lists t l to → Lists (record { items = t.items; len = t.len; target = n }) l n

@@ -1,15 +1,8 @@
 -- What the waits of a cycle and the counters mean to the model. A wait keeps numbers: places in the pool, a register or a kind.
-use Rattle.std.specs.Prelude.{ℕ, ◌≤◌, ◌≡◌, List, map, length, take}
-use Rattle.std.proofs.Math.Option.{Option}
+use Rattle.std.specs.Prelude.{ℕ, ◌≤◌, ◌≡◌, List, map, length, take, Option}
 use Rattle.laws.specs.Texts.{Text}
 use Rattle.capability.specs.declared.PipelineHazardKind.{PipelineHazardKind}
-use Rattle.capability.specs.declared.PipelineHazardKind.TheVariants.{
-  ReadAfterWrite,
-  BranchFlush,
-  FunctionalUnitBusy,
-  WriteAfterWrite,
-  WriteAfterRead,
-}
+use Rattle.capability.specs.declared.PipelineHazardKind.TheVariants.{ReadAfterWrite, BranchFlush, FunctionalUnitBusy, WriteAfterWrite, WriteAfterRead}
 use Rattle.capability.specs.declared.PipelineStats.{PipelineStats}
 use Rattle.model.specs.Config.{UnitSpec, spec_name}
 use Rattle.model.specs.Op.{first_word}
@@ -19,18 +12,7 @@ use Rattle.model.specs.Traces.{Trace as Wait, trace_of, FETCH, ISSUE, READ, EXEC
 use Rattle.model.specs.State.{Stats, stats_of, Log as ModelLog, log_of}
 use Rattle.flight.specs.View.{Legend, carried_at}
 use Rattle.timeline.specs.declared.WaitForm.{WaitForm}
-use Rattle.timeline.specs.declared.WaitForm.TheVariants.{
-  Overwrites,
-  MemoryOrder,
-  Drains,
-  WaitsFor,
-  WaitsForOlder,
-  BehindBranch,
-  BehindSystem,
-  StillWrites,
-  AllBusy,
-  RedirectTo,
-}
+use Rattle.timeline.specs.declared.WaitForm.TheVariants.{Overwrites, MemoryOrder, Drains, WaitsFor, WaitsForOlder, BehindBranch, BehindSystem, StillWrites, AllBusy, RedirectTo}
 use Rattle.timeline.specs.Waits.{detail_of}
 use Rattle.stalls.specs.declared.Trace.{Trace}
 use Rattle.stalls.specs.declared.TraceList.{TraceList}

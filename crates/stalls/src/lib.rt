@@ -40,111 +40,106 @@ pub struct Log {
 }
 
 // The hazard of a form.
+#[tactic(auto, unfolding(crate::specs::View::form_kind))]
 pub fn kind_of(form: WaitForm) -> PipelineHazardKind
     ensures { result ≡ form_kind form }
 {
     match form {
         WaitForm::Overwrites => PipelineHazardKind::WriteAfterRead,
-        WaitForm::MemoryOrder => PipelineHazardKind::FunctionalUnitBusy,
-        WaitForm::Drains => PipelineHazardKind::FunctionalUnitBusy,
-        WaitForm::WaitsFor => PipelineHazardKind::ReadAfterWrite,
-        WaitForm::WaitsForOlder => PipelineHazardKind::ReadAfterWrite,
-        WaitForm::BehindBranch => PipelineHazardKind::BranchFlush,
-        WaitForm::BehindSystem => PipelineHazardKind::FunctionalUnitBusy,
+        WaitForm::WaitsFor | WaitForm::WaitsForOlder => PipelineHazardKind::ReadAfterWrite,
+        WaitForm::BehindBranch | WaitForm::RedirectTo => PipelineHazardKind::BranchFlush,
         WaitForm::StillWrites => PipelineHazardKind::WriteAfterWrite,
-        WaitForm::AllBusy => PipelineHazardKind::FunctionalUnitBusy,
-        WaitForm::RedirectTo => PipelineHazardKind::BranchFlush,
+        WaitForm::MemoryOrder | WaitForm::Drains | WaitForm::BehindSystem | WaitForm::AllBusy => {
+            PipelineHazardKind::FunctionalUnitBusy
+        }
     }
 }
 
 impl TraceList {
+    #[tactic(auto, unfolding(crate::specs::View::listed))]
     pub fn new() -> TraceList
         ensures { Lists result [] 0 }
     {
-        let t = Trace {
+        let none = Trace {
             form: WaitForm::Drains,
             mine: 80,
             other: 80,
             number: 0,
         };
         TraceList {
-            items: [t; 130],
+            items: [none; 130],
             len: 0,
             target: 0,
         }
     }
 
-    // model: traces ++ (t ∷ [])
-    pub fn push(self, trace: Trace) -> TraceList
-        requires trace_list_ok { TraceListOk self }
-        requires len_bound { self.len < 130 }
-        ensures { Lists result (listed self ++ trace ∷ []) self.target }
+    #[tactic(auto, unfolding(crate::specs::View::listed))]
+    pub fn as_slice(&self) -> &[Trace]
+        requires { TraceListOk self.now }
+        ensures { result.now ≡ listed self.now }
     {
-        let mut list = self;
-        let n = self.len;
-        list.items[n] = trace;
-        list.len = n + 1;
-        list
+        &self.items[..self.len]
+    }
+
+    // model: traces ++ (t ∷ [])
+    #[tactic(auto, using(crate::proofs::Logged::take_pushed), unfolding(crate::specs::View::listed))]
+    pub fn push(&mut self, trace: Trace)
+        requires trace_list_ok { TraceListOk self.old }
+        requires len_bound { self.old.len < 130 }
+        ensures { Lists self.new (listed self.old ++ trace ∷ []) self.old.target }
+    {
+        self.items[self.len] = trace;
+        self.len += 1;
     }
 }
 
 impl Log {
+    #[tactic(auto, unfolding(crate::specs::View::listed, crate::specs::View::view_traces, crate::specs::View::view_log, crate::specs::View::view_stats))]
     pub fn new() -> Log
         ensures { Logs result [] 0 (λ f. log_of no_stats [] f.rows f.status) }
     {
-        let traces = TraceList::new();
-        let stats = PipelineStats::new();
-        Log { traces, stats }
-    }
-
-    // A cycle opens: it is counted, and nothing is listed yet.
-    pub fn opened(self) -> Log
-        requires { LogOk self }
-        ensures { Logs result [] self.traces.target (λ f. with_stats (count_cycle (view_stats self.stats)) (with_traces [] (view_log f self))) }
-    {
-        let mut log = self;
-        let counted = stats::count_cycle(self.stats);
-        log.stats = counted;
-        log.traces.len = 0;
-        log
-    }
-
-    // model: State.stall_all, of one
-    pub fn stall(self, trace: Trace) -> Log
-        requires log_ok { LogOk self }
-        requires len_bound { self.traces.len < 130 }
-        ensures { Logs result (listed self.traces ++ trace ∷ []) self.traces.target (λ f. stall_all (view_trace f self.traces.target trace ∷ []) (view_log f self)) }
-    {
-        let form = trace.form;
-        let kind = kind_of(form);
-        let listed = self.traces.push(trace);
-        let counted = stats::count_stall(self.stats, kind);
         Log {
-            traces: listed,
-            stats: counted,
+            traces: TraceList::new(),
+            stats: PipelineStats::new(),
         }
+    }
+
+    #[tactic(auto, unfolding(crate::specs::View::listed, crate::specs::View::view_traces, crate::specs::View::view_log))]
+    // A cycle opens: it is counted, and nothing is listed yet.
+    pub fn open(&mut self)
+        requires { LogOk self.old }
+        ensures { Logs self.new [] self.old.traces.target (λ f. with_stats (count_cycle (view_stats self.old.stats)) (with_traces [] (view_log f self.old))) }
+    {
+        stats::count_cycle(&mut self.stats);
+        self.traces.len = 0;
+    }
+
+    #[tactic(auto, using(crate::proofs::Logged::stalled), unfolding(crate::specs::View::view_traces, crate::specs::View::view_log))]
+    // model: State.stall_all, of one
+    pub fn stall(&mut self, trace: Trace)
+        requires log_ok { LogOk self.old }
+        requires len_bound { self.old.traces.len < 130 }
+        ensures { Logs self.new (listed self.old.traces ++ trace ∷ []) self.old.traces.target (λ f. stall_all (view_trace f self.old.traces.target trace ∷ []) (view_log f self.old)) }
+    {
+        self.traces.push(trace);
+        stats::count_stall(&mut self.stats, kind_of(trace.form));
     }
 
     // A redirect that drops so many queued operations: listed, and counted apart from other waits.
     // model: Issue.flush, of the log
-    pub fn redirected(self, target: u64, dropped: usize) -> Log
-        requires log_ok { LogOk self }
-        requires len_bound { self.traces.len < 130 }
-        requires all { All NoRedirect (listed self.traces) }
-        ensures { Logs result (listed self.traces ++ redirect_trace ∷ []) target (λ f. with_stats (count_flush dropped (view_stats self.stats)) (with_traces ((view_log f self).traces ++ trace_of BranchFlush WRITE FETCH (redirect_to target) ∷ []) (view_log f self))) }
+    pub fn redirect(&mut self, target: u64, dropped: usize)
+        requires log_ok { LogOk self.old }
+        requires len_bound { self.old.traces.len < 130 }
+        requires all { All NoRedirect (listed self.old.traces) }
+        ensures { Logs self.new (listed self.old.traces ++ redirect_trace ∷ []) target (λ f. with_stats (count_flush dropped (view_stats self.old.stats)) (with_traces ((view_log f self.old).traces ++ trace_of BranchFlush WRITE FETCH (redirect_to target) ∷ []) (view_log f self.old))) }
     {
-        let t = Trace {
+        self.traces.push(Trace {
             form: WaitForm::RedirectTo,
             mine: 80,
             other: 80,
             number: 0,
-        };
-        let mut listed = self.traces.push(t);
-        listed.target = target;
-        let counted = stats::count_flush(self.stats, dropped as u64);
-        Log {
-            traces: listed,
-            stats: counted,
-        }
+        });
+        self.traces.target = target;
+        stats::count_flush(&mut self.stats, dropped as u64);
     }
 }

@@ -1,60 +1,59 @@
 // The counters (capability/pipeline.rs, PipelineStats). Each stops at 2^64 - 1.
+#![tactic(auto, unfolding(crate::specs::View::view_stats, model::specs::State::up))]
+
 ghost use Rattle.std.specs.Prelude.{◌≡◌};
-ghost use Rattle.model.specs.State.{up, count_cycle, count_retired, count_flush, count_stall};
+ghost use Rattle.laws.specs.Numbers.{saturating_add};
+ghost use Rattle.model.specs.State.{count_cycle, count_retired, count_flush, count_stall};
 ghost use Rattle.stalls.specs.View.{view_stats};
 
-use capability::{PipelineHazardKind, PipelineStats, saturating_add};
+use capability::{PipelineHazardKind, PipelineStats};
 
-// model: State.up
-fn up(counted: bool, n: u64) -> u64
-    ensures { result ≡ up counted n }
+// One more.
+fn up(counter: &mut u64)
+    ensures { counter.new ≡ saturating_add counter.old 1 }
 {
-    if counted { saturating_add(n, 1) } else { n }
+    *counter = counter.saturating_add(1);
 }
 
 // model: State.count_cycle
-pub fn count_cycle(stats: PipelineStats) -> PipelineStats
-    ensures { view_stats result ≡ count_cycle (view_stats stats) }
+pub fn count_cycle(stats: &mut PipelineStats)
+    ensures { view_stats stats.new ≡ count_cycle (view_stats stats.old) }
 {
-    let mut s = stats;
-    s.cycles = saturating_add(stats.cycles, 1);
-    s
+    up(&mut stats.cycles);
 }
 
 // model: State.count_retired
-pub fn count_retired(stats: PipelineStats, branch: bool) -> PipelineStats
-    ensures { view_stats result ≡ count_retired branch (view_stats stats) }
+pub fn count_retired(stats: &mut PipelineStats, branch: bool)
+    ensures { view_stats stats.new ≡ count_retired branch (view_stats stats.old) }
 {
-    let mut s = stats;
-    s.committed = saturating_add(stats.committed, 1);
-    s.branches = up(branch, stats.branches);
-    s
+    up(&mut stats.committed);
+    if branch {
+        up(&mut stats.branches);
+    }
 }
 
 // model: State.count_flush
-pub fn count_flush(stats: PipelineStats, dropped: u64) -> PipelineStats
-    ensures { view_stats result ≡ count_flush dropped (view_stats stats) }
+pub fn count_flush(stats: &mut PipelineStats, dropped: u64)
+    ensures { view_stats stats.new ≡ count_flush dropped (view_stats stats.old) }
 {
-    let mut s = stats;
-    s.stalls = saturating_add(stats.stalls, dropped);
-    s.branch_stalls = saturating_add(stats.branch_stalls, dropped);
-    s.flushes = saturating_add(stats.flushes, 1);
-    s
+    stats.stalls = stats.stalls.saturating_add(dropped);
+    stats.branch_stalls = stats.branch_stalls.saturating_add(dropped);
+    up(&mut stats.flushes);
 }
 
 // model: State.count_stall
-pub fn count_stall(stats: PipelineStats, kind: PipelineHazardKind) -> PipelineStats
-    ensures { view_stats result ≡ count_stall kind (view_stats stats) }
+#[tactic(auto, unfolding(crate::specs::View::view_stats, model::specs::State::up, model::specs::State::count_stall, model::specs::State::same_hazard, capability::specs::Numbers::hazard_number))]
+pub fn count_stall(stats: &mut PipelineStats, kind: PipelineHazardKind)
+    ensures { view_stats stats.new ≡ count_stall kind (view_stats stats.old) }
 {
-    let mut s = stats;
-    let k = kind.number();
-    s.stalls = saturating_add(stats.stalls, 1);
-    s.raw_stalls = up(k == 0, stats.raw_stalls);
-    s.load_use_stalls = up(k == 1, stats.load_use_stalls);
-    s.branch_stalls = up(k == 2, stats.branch_stalls);
-    s.functional_unit_stalls = up(k == 3, stats.functional_unit_stalls);
-    s.memory_stalls = up(k == 4, stats.memory_stalls);
-    s.waw_stalls = up(k == 5, stats.waw_stalls);
-    s.war_stalls = up(k == 6, stats.war_stalls);
-    s
+    up(&mut stats.stalls);
+    match kind {
+        PipelineHazardKind::ReadAfterWrite => up(&mut stats.raw_stalls),
+        PipelineHazardKind::LoadUse => up(&mut stats.load_use_stalls),
+        PipelineHazardKind::BranchFlush => up(&mut stats.branch_stalls),
+        PipelineHazardKind::FunctionalUnitBusy => up(&mut stats.functional_unit_stalls),
+        PipelineHazardKind::MemoryLatency => up(&mut stats.memory_stalls),
+        PipelineHazardKind::WriteAfterWrite => up(&mut stats.waw_stalls),
+        PipelineHazardKind::WriteAfterRead => up(&mut stats.war_stalls),
+    }
 }

@@ -1,15 +1,19 @@
 -- Classes by the cases that they are not, and how large a cell's byte is.
 use Prim.Native.Nat.{ℕ, ◌≤◌, ◌<◌}
-use mathlib.Core.Path.{◌≡◌, refl}
+use mathlib.Core.Path.{◌≡◌, refl, ap₂}
+use lib.Dec.{eqb}
+use denote.Enum.Bare.{sameb}
+use denote.Enum.Declared.{tag_of}
+use Rattle.capability.specs.contracts.Phase.{the_type}
 use mathlib.Core.Bool.{false}
-use mathlib.Core.Option.{Option, none, some}
+use Rattle.std.specs.Prelude.{Option, None, Some}
 use native.Mathlib.Omega.{arith}
 use Rattle.capability.specs.declared.PipelineInstructionClass.{PipelineInstructionClass}
 use Rattle.capability.specs.declared.PipelineInstructionClass.TheVariants.{Alu, Multiply, Divide, Load, Store, Branch, Jump, System, FloatingPoint, Unknown}
 use Rattle.capability.specs.declared.PipelineHazardKind.{PipelineHazardKind}
 use Rattle.capability.specs.declared.Phase.{Phase}
 use Rattle.capability.specs.declared.Phase.TheVariants.{Wait, Read, Execute, Write}
-use Rattle.capability.specs.Numbers.{class_number}
+use Rattle.capability.specs.Numbers.{class_number, phase_number}
 use Rattle.model.specs.Config.{same_class, is_memory, is_system}
 use Rattle.model.specs.Issue.{stalled_or, phase_label}
 
@@ -26,27 +30,37 @@ not_memory System a b = refl
 not_memory FloatingPoint a b = refl
 not_memory Unknown a b = refl
 
-pub not-system : (k : PipelineInstructionClass) → (k ≡ System → ⊥) → is_system k ≡ false
+pub not_system : (k : PipelineInstructionClass) → (k ≡ System → ⊥) → is_system k ≡ false
 unfolding is_system same_class class_number
-not-system Alu a = refl
-not-system Multiply a = refl
-not-system Divide a = refl
-not-system Load a = refl
-not-system Store a = refl
-not-system Branch a = refl
-not-system Jump a = refl
-not-system System a = absurd (a refl)
-not-system FloatingPoint a = refl
-not-system Unknown a = refl
+not_system Alu a = refl
+not_system Multiply a = refl
+not_system Divide a = refl
+not_system Load a = refl
+not_system Store a = refl
+not_system Branch a = refl
+not_system Jump a = refl
+not_system System a = absurd (a refl)
+not_system FloatingPoint a = refl
+not_system Unknown a = refl
 
-pub label-most : (p : Phase) {k : ℕ} → k < 16 → phase_label p k < 24
+pub label_most : (p : Phase) {k : ℕ} → k < 16 → phase_label p k < 24
 unfolding phase_label
-label-most Wait h = omega arith
-label-most Read h = omega arith
-label-most Execute h = omega arith
-label-most Write h = omega arith
+label_most Wait h = omega arith
+label_most Read h = omega arith
+label_most Execute h = omega arith
+label_most Write h = omega arith
 
-pub stalled-most : (h : Option PipelineHazardKind) → stalled_or h ≤ 32
+pub stalled_most : (h : Option PipelineHazardKind) → stalled_or h ≤ 32
 unfolding stalled_or
-stalled-most none = omega arith
-stalled-most (some h) = omega arith
+stalled_most None = omega arith
+stalled_most (Some h) = omega arith
+
+pub same_phase : (p w : Phase) → sameb the_type p w ≡ eqb (phase_number p) (phase_number w)
+unfolding phase_number
+same_phase p w = ap₂ eqb (tagged p) (tagged w)
+  where
+    tagged : (q : Phase) → tag_of the_type q ≡ phase_number q
+    tagged Wait = refl
+    tagged Read = refl
+    tagged Execute = refl
+    tagged Write = refl

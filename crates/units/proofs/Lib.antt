@@ -1,4 +1,3 @@
-pub mod Steps
 pub mod Pending
 pub mod Cases
 pub mod OldestIs

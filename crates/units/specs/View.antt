@@ -1,8 +1,8 @@
 -- What a unit means to the model, and when it is well formed.
 use Rattle.std.specs.Prelude.{ℕ, ◌≤◌, ◌<◌, ◌≡◌}
 use Rattle.model.specs.Units.{FunctionalUnit, unit_of}
-use Rattle.registers.specs.View.{view_waits, WaitsOk}
-use Rattle.flight.specs.View.{Legend, carried_at, read, written, op_with, OperandsOk}
+use Rattle.registers.specs.View.{view_waits, WaitsOk, read, written, OperandsOk}
+use Rattle.flight.specs.View.{Legend, carried_at, op_with}
 use Rattle.units.specs.declared.Unit.{Unit as Slot}
 
 -- The model keeps class and redirects beside the operation and in it.

@@ -1,16 +1,15 @@
-use native.Mathlib.Omega.{arith}
+use Rattle.std.proofs.Common.{arith}
 use Rattle.config.specs.View.{view_spec}
-use Rattle.config.proofs.Machines.{specs-next, specs-end}
-use Rattle.bank.proofs.Built.{building-room, building-next, building-last}
+use Rattle.config.proofs.Machines.{specs-end}
+use Rattle.bank.proofs.Built.{building-next, building-last, kinds-length, kind-seen, kind-room}
 use Rattle.bank.proofs.Units.build.Goals as goal
 
-pub with_instances-us-requires : goal.with_instances-us-requires
-unfolding view_spec
-with_instances-us-requires c = let v = c.loop-i.invariant in record { units_ok = v.ok; n_bound = omega (arith, c.requires.units, building-room v (specs-next c.requires c.loop-i-test.true)); spec_bound = omega (arith, c.requires.few) }
+pub add_instances-requires-clause-n_bound : goal.add_instances-requires-clause-n_bound
+add_instances-requires-clause-n_bound c = kind-room c.requires c.loop-spec.invariant _ c.loop-spec-test.true
 
-pub loop-i-preserved : goal.loop-i-preserved
+pub loop-spec-preserved : goal.loop-spec-preserved
 unfolding view_spec
-loop-i-preserved c = building-next c.loop-i.invariant (specs-next c.requires c.loop-i-test.true) c.with_instances-us.ensures
+loop-spec-preserved c = building-next c.loop-spec.invariant (kind-seen c.requires _ c.loop-spec-test.true) c.add_instances.ensures
 
 pub returns : goal.returns
-returns c = building-last c.loop-i.invariant (specs-end _ c.loop-i-test.false)
+returns c = building-last c.loop-spec.invariant (specs-end c.args.machine.now (omega (arith, kinds-length c.requires)))

@@ -1,10 +1,7 @@
-use Prim.Native.Nat.{ℕ, ◌-◌}
+use Rattle.std.proofs.Common.{ℕ}
 use Rattle.model.specs.Units.{clear}
 use Rattle.bank.proofs.Steps.{Each}
 use Rattle.bank.proofs.Units.clear.Given as goal
 
-abbrev pub invariant-loop-i : goal.invariant-loop-i
-invariant-loop-i l = Each clear (λ (p : ℕ). 80) l.initial.us l.us l.i
-
-abbrev pub decreases-loop-i : goal.decreases-loop-i
-decreases-loop-i l = l.n - l.i
+abbrev pub invariant-loop-unit : goal.invariant-loop-unit
+invariant-loop-unit l = Each clear (λ (p : ℕ). 80) l.initial.unit-items l.unit-items l.unit-index

@@ -1,13 +1,15 @@
-use Rattle.flight.specs.View.{view_hazard}
-use Rattle.flight.proofs.Entries.{clearing-first, clearing-next, clearing-last}
+use Rattle.std.proofs.Common.{refl, le_refl}
+use Rattle.laws.proofs.Map.{changed-first, changed-next}
+use Rattle.flight.specs.View.{entries}
+use Rattle.flight.proofs.Entries.{cleared, whole-changed}
 use Rattle.flight.proofs.Queue.clear_hazards.Goals as goal
 
-pub loop-i-init : goal.loop-i-init
-loop-i-init c = clearing-first c.requires
+pub loop-op-init : goal.loop-op-init
+loop-op-init c = changed-first (le_refl _)
 
-pub loop-i-preserved : goal.loop-i-preserved
-loop-i-preserved c = clearing-next c.requires c.loop-i.invariant _ c.loop-i-test.true c.with_hazard-y.ensures
+pub loop-op-preserved : goal.loop-op-preserved
+loop-op-preserved c = changed-next c.loop-op.invariant _ c.loop-op-test.true refl refl
 
 pub returns : goal.returns
-unfolding view_hazard
-returns c = clearing-last c.requires c.loop-i.invariant c.loop-i-test.false
+unfolding entries
+returns c = cleared c.requires (whole-changed c.loop-op.auto.op-items c.loop-op.invariant c.loop-op-test.false)

@@ -1,9 +1,7 @@
-use Prim.Native.Nat.{◌-◌}
-use Rattle.flight.proofs.Entries.{Clearing}
+use Rattle.std.proofs.Common.{length, None}
+use Rattle.laws.proofs.Map.{Changed}
+use Rattle.flight.specs.Promises.{hazardous}
 use Rattle.flight.proofs.Queue.clear_hazards.Given as goal
 
-abbrev pub invariant-loop-i : goal.invariant-loop-i
-invariant-loop-i l = Clearing l.initial.queue l.queue l.i
-
-abbrev pub decreases-loop-i : goal.decreases-loop-i
-decreases-loop-i l = l.n - l.i
+abbrev pub invariant-loop-op : goal.invariant-loop-op
+invariant-loop-op l = Changed (λ j. hazardous None) l.initial.op-items l.op-items (length l.initial.op-items) l.op-index

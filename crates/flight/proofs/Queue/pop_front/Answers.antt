@@ -1,9 +1,9 @@
-use native.Mathlib.Omega.{arith}
-use Rattle.flight.proofs.Entries.{popping-last, popped-none}
+use Rattle.std.proofs.Common.{arith}
+use Rattle.flight.proofs.Entries.{popped, popped-none}
 use Rattle.flight.proofs.Queue.pop_front.Goals as goal
 
-pub returns-then-n-eq0 : goal.returns-then-n-eq0
-returns-then-n-eq0 c = popped-none c.requires c.if-n-eq0.true
+pub returns-then-self-ne0 : goal.returns-then-self-ne0
+returns-then-self-ne0 c = popped c.requires c.copy_within.ensures.after c.if-self-ne0.true
 
-pub returns : goal.returns
-returns c = popping-last c.requires c.loop-j.invariant (omega (arith, c.loop-j-test.false))
+pub returns-else-self-ne0 : goal.returns-else-self-ne0
+returns-else-self-ne0 c = popped-none c.requires (omega arith)

@@ -1,26 +1,31 @@
--- A turn takes the unit at i.
-use Rattle.std.proofs.Common.{ℕ, ◌≡◌, ◌+◌, ◌≤◌, ◌<◌, List, length, get_or, drop, refl, ap, sym, ◌∙◌, add-one}
-use Rattle.std.proofs.Math.Seq.{drop-cons}
-use Rattle.std.proofs.lemmas.List.{drop_all}
-use Rattle.units.specs.declared.Unit.{Unit as Slot}
+use Rattle.std.proofs.Common.{rules, ◌≡◌, ◌∙◌, ap, sym, option_map, Option, List, drop, ◌+◌}
 use Rattle.units.specs.declared.lent.Best.{Best}
-use Rattle.units.specs.Lent.{better_of, best_from, oldest_busy, place_of}
+use Rattle.units.specs.Lent.{best_from, oldest_busy}
+use Rattle.units.proofs.OldestIs.{best-end, best-took, best-stays}
+use Rattle.laws.proofs.Tests.{and_no, and-next}
+use Rattle.units.specs.declared.Unit.{Unit}
+use Rattle.units.proofs.lent.oldest_busy.Goals.{then-unit+then-is_none_or, else-unit, else-unit-via-then-unit+else-is_none_or, else-unit-via-else-unit}
 use Rattle.units.proofs.lent.oldest_busy.Goals as goal
 
-next : (us : List Slot) (b : Best) (i : ℕ) (d : Slot) → i < length us → best_from (i + 1) (better_of b (get_or us i d) i) (drop (i + 1) us) ≡ best_from i b (drop i us)
-unfolding best_from
-next us b i d h = rw (drop-cons us i d h) (ap (λ n. best_from (i + 1) (better_of b (get_or us i d) i) (drop n us)) (add-one i))
-
-pub loop-i-preserved : goal.loop-i-preserved
-loop-i-preserved c =
-    ap (λ (b : Best). best_from (c.loop-i.i + 1) b (drop (c.loop-i.i + 1) c.args.units.now)) c.better-best.ensures ∙ next c.args.units.now c.loop-i.best c.loop-i.i _ c.loop-i-test.true ∙ c.loop-i.invariant
-
-none : (us : List Slot) (b : Best) (i : ℕ) → length us ≤ i → best_from i b (drop i us) ≡ b
-unfolding best_from
-none us b i h = rw (drop_all i us h) refl
+pub loop-at-preserved : goal.loop-at-preserved
+loop-at-preserved c =
+    let us : List Unit = c.args.units.now in
+    elim c.if-unit.branch [
+      | then-unit+then-is_none_or w ↦
+          ap (λ (b : Option Best). best_from (c.loop-at.at + 1) b (drop (c.loop-at.at + 1) us)) w.best-is
+          ∙ best-took us c.loop-at.best _ c.loop-at-test.true w.if-unit.true (search rules)
+          ∙ c.loop-at.invariant
+      | else-unit w ↦
+          ap (λ (b : Option Best). best_from (c.loop-at.at + 1) b (drop (c.loop-at.at + 1) us)) w.best-is
+          ∙ elim w.else-unit.branch [
+            | else-unit-via-then-unit+else-is_none_or v ↦ best-stays us c.loop-at.best _ c.loop-at-test.true (and-next _ v.if-unit.true ∙ search rules)
+            | else-unit-via-else-unit v ↦ best-stays us c.loop-at.best _ c.loop-at-test.true (and_no _ v.if-unit.false)
+          ]
+          ∙ c.loop-at.invariant
+    ]
 
 pub returns : goal.returns
 unfolding oldest_busy
 returns c =
-    let e = none c.args.units.now c.loop-i.best c.loop-i.i c.loop-i-test.false in
-    c.found_of.ensures ∙ ap place_of (sym e ∙ c.loop-i.invariant)
+    let e : c.map.result ≡ option_map (λ (x : Best). x.at) c.loop-at.best = search rules in
+    e ∙ ap (option_map (λ (x : Best). x.at)) (sym (best-end _ _ c.loop-at-test.false) ∙ c.loop-at.invariant)

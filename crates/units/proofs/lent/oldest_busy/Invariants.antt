@@ -1,10 +1,7 @@
--- `best` is the best of those before i.
-use Rattle.std.proofs.Common.{length, ◌-◌, ◌≡◌, drop}
-use Rattle.units.specs.Lent.{no_best, best_from}
+-- `best` is the best of those before `at`.
+use Rattle.std.proofs.Common.{◌≡◌, drop, None}
+use Rattle.units.specs.Lent.{best_from}
 use Rattle.units.proofs.lent.oldest_busy.Given as goal
 
-abbrev pub invariant-loop-i : goal.invariant-loop-i
-invariant-loop-i l = best_from l.i l.best (drop l.i l.units) ≡ best_from 0 no_best l.units
-
-abbrev pub decreases-loop-i : goal.decreases-loop-i
-decreases-loop-i l = length l.units - l.i
+abbrev pub invariant-loop-at : goal.invariant-loop-at
+invariant-loop-at l = best_from l.at l.best (drop l.at l.units) ≡ best_from 0 None l.units
