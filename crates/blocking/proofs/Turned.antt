@@ -5,12 +5,11 @@ use mathlib.Core.Logic.{inl}
 use mathlib.Core.List.{List, [], ◌∷◌, ◌++◌, map}
 use native.Mathlib.Omega.{arith}
 use lib.ListN.{length, get_or, drop}
-use Rattle.laws.specs.Optional.{value_or}
 use Rattle.laws.proofs.Slices.{slice-end, slice-next, view-next, All-seen}
 use Rattle.capability.specs.declared.PipelineHazardKind.TheVariants.{FunctionalUnitBusy, WriteAfterRead}
 use Rattle.model.specs.Registers.{name_of}
 use Rattle.model.specs.Traces.{Trace as Wait, overwrites, memory_order, drains, trace_of, READ, WRITE}
-use Rattle.model.specs.Write.{Blocked as Reason, drain, blocked_kind, blocked_detail, blocked_trace}
+use Rattle.model.specs.Write.{blocked_kind, blocked_detail, blocked_trace}
 use Rattle.model.specs.State.{stall_all}
 use Rattle.timeline.specs.declared.WaitForm.TheVariants.{Overwrites, MemoryOrder, Drains}
 use Rattle.timeline.specs.Waits.{detail_of}
@@ -20,60 +19,51 @@ use Rattle.stalls.specs.View.{Frame, view_trace, listed, view_log, logs}
 use Rattle.stalls.specs.Promises.{is_redirect, names_register, Logs}
 use Rattle.bank.specs.declared.Units.{Units}
 use Rattle.bank.specs.View.{view_units}
-use Rattle.writing.specs.declared.Blocked.{Blocked}
-use Rattle.writing.specs.declared.Blocked.TheVariants.{Free, War, Memory, Drain}
+use Rattle.writing.specs.declared.Blocked.TheVariants.{War, Memory, Drain}
 use Rattle.writing.specs.declared.Turned.{Turned}
 use Rattle.writing.specs.declared.Tried.{Tried}
-use Rattle.writing.specs.View.{view_blocked, view_turned, turned_away, BlockedKnown, TurnedOk, TriedOk}
+use Rattle.writing.specs.View.{view_reason, view_turned, turned_away, BlockedKnown, TurnedOk, TriedOk}
 use Rattle.telling.specs.Telling.{PlaceOf}
 use Rattle.telling.proofs.Tell.{Telling, telling-next}
 use Rattle.blocking.specs.Told.{Told}
 
 -- ── One ─────────────────────────────────────────────────────────────────────
 
--- Without a register's reader or an older access the reason is to drain.
-pub drain-left : (b : Blocked) → ((r j : ℕ) → b ≡ War r j → ⊥) → ((j : ℕ) → b ≡ Memory j → ⊥) → value_or drain (view_blocked b) ≡ drain
-unfolding view_blocked
-drain-left Free w m = refl
-drain-left (War r j) w m = absurd (w r j refl)
-drain-left (Memory j) w m = absurd (m j refl)
-drain-left Drain w m = refl
-
 module _ {us : Units} {t : Turned} {m : ℕ} (mine : PlaceOf us t.unit m) where
   pub told-war : {r j o : ℕ} → TurnedOk us t → PlaceOf us j o → t.blocked ≡ War r j
       → Told us t (record { form = Overwrites; mine = m; other = o; number = r })
-  unfolding logs detail_of view_turned view_blocked blocked_trace blocked_kind blocked_detail is_redirect
+  unfolding logs detail_of view_turned view_reason blocked_trace blocked_kind blocked_detail is_redirect
   told-war {r} {j} ok other e =
       record {
         is =
             λ f target.
             ap₂ (λ x y. trace_of WriteAfterRead READ WRITE (overwrites x (name_of f.names r) y)) (mine.is f.legend) (other.is f.legend)
-            ∙ ap (λ b. blocked_trace (view_units f.legend us) f.names (t.unit, value_or drain (view_blocked b))) (sym e);
+            ∙ ap (λ b. blocked_trace (view_units f.legend us) f.names (t.unit, view_reason b)) (sym e);
         from =
             record { mine = mine.placed; other = other.placed; known = λ n a h. subst (BlockedKnown n) e (ok.known n a); other_form = refl };
       }
 
   pub told-memory : {j o : ℕ} → PlaceOf us j o → t.blocked ≡ Memory j
       → Told us t (record { form = MemoryOrder; mine = m; other = o; number = 0 })
-  unfolding logs detail_of view_turned view_blocked blocked_trace blocked_kind blocked_detail is_redirect names_register
+  unfolding logs detail_of view_turned view_reason blocked_trace blocked_kind blocked_detail is_redirect names_register
   told-memory {j} other e =
       record {
         is =
             λ f target.
             ap₂ (λ x y. trace_of FunctionalUnitBusy READ WRITE (memory_order x y)) (mine.is f.legend) (other.is f.legend)
-            ∙ ap (λ b. blocked_trace (view_units f.legend us) f.names (t.unit, value_or drain (view_blocked b))) (sym e);
+            ∙ ap (λ b. blocked_trace (view_units f.legend us) f.names (t.unit, view_reason b)) (sym e);
         from =
             record { mine = mine.placed; other = other.placed; known = λ n a h. absurd (let z : ◌≡◌ {A = ℕ} 0 1 = cc in omega arith); other_form = refl };
       }
 
-  pub told-drain : ((r j : ℕ) → t.blocked ≡ War r j → ⊥) → ((j : ℕ) → t.blocked ≡ Memory j → ⊥) → Told us t (record { form = Drains; mine = m; other = 80; number = 0 })
-  unfolding logs detail_of view_turned blocked_trace blocked_kind blocked_detail is_redirect names_register
-  told-drain w o =
+  pub told-drain : t.blocked ≡ Drain → Told us t (record { form = Drains; mine = m; other = 80; number = 0 })
+  unfolding logs detail_of view_turned view_reason blocked_trace blocked_kind blocked_detail is_redirect names_register
+  told-drain e =
       record {
         is =
             λ f target.
             ap (λ x. trace_of FunctionalUnitBusy READ WRITE (drains x)) (mine.is f.legend)
-            ∙ ap (λ (b : Reason). blocked_trace (view_units f.legend us) f.names (t.unit, b)) (sym (drain-left t.blocked w o));
+            ∙ ap (λ b. blocked_trace (view_units f.legend us) f.names (t.unit, view_reason b)) (sym e);
         from =
             record { mine = mine.placed; other = inl refl; known = λ n a h. absurd (let z : ◌≡◌ {A = ℕ} 0 1 = cc in omega arith); other_form = refl };
       }

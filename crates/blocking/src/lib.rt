@@ -14,19 +14,18 @@ use timeline::WaitForm;
 use writing::{Blocked, Tried, Turned};
 
 // model: Write.blocked_trace
-fn blocked_trace(us: &[[u8; 40]], ss: &[u64], n: usize, t: Turned) -> Trace
+fn blocked_trace(us: &[[u8; 40]], ss: &[u64], n: usize, turned: Turned) -> Trace
     requires lent { Lent us.now ss.now n }
-    requires turned_ok { TurnedOk (units_of us.now ss.now n) t }
-    ensures { Told (units_of us.now ss.now n) t result }
+    requires turned_ok { TurnedOk (units_of us.now ss.now n) turned }
+    ensures { Told (units_of us.now ss.now n) turned result }
 {
-    let blocked = t.blocked;
-    let mine = place_of(us, ss, n, t.unit);
-    match blocked {
-        Blocked::War(r, j) => Trace {
+    let mine = place_of(us, ss, n, turned.unit);
+    match turned.blocked {
+        Blocked::War(register, j) => Trace {
             form: WaitForm::Overwrites,
             mine,
             other: place_of(us, ss, n, j),
-            number: r,
+            number: register,
         },
         Blocked::Memory(j) => Trace {
             form: WaitForm::MemoryOrder,
@@ -34,7 +33,7 @@ fn blocked_trace(us: &[[u8; 40]], ss: &[u64], n: usize, t: Turned) -> Trace
             other: place_of(us, ss, n, j),
             number: 0,
         },
-        _ => Trace {
+        Blocked::Drain => Trace {
             form: WaitForm::Drains,
             mine,
             other: 80,
@@ -44,21 +43,14 @@ fn blocked_trace(us: &[[u8; 40]], ss: &[u64], n: usize, t: Turned) -> Trace
 }
 
 // model: stall_all (map blocked_trace (turned_away))
-pub fn list_blocked(us: &[[u8; 40]], ss: &[u64], n: usize, tried: Tried, log: Log) -> Log
+pub fn list_blocked(us: &[[u8; 40]], ss: &[u64], n: usize, tried: &Tried, log: &mut Log)
     requires lent { Lent us.now ss.now n }
-    requires tried_ok { TriedOk (units_of us.now ss.now n) tried }
-    requires log_ok { LogOk log }
-    requires n_bound { log.traces.len + n ≤ 130 }
-    ensures { Tells (units_of us.now ss.now n) log result (blocked_waits (units_of us.now ss.now n) tried) }
+    requires tried_ok { TriedOk (units_of us.now ss.now n) tried.now }
+    requires log_ok { LogOk log.old }
+    requires n_bound { log.old.traces.len + n ≤ 130 }
+    ensures { Tells (units_of us.now ss.now n) log.old log.new (blocked_waits (units_of us.now ss.now n) tried.now) }
 {
-    let mut all = log;
-    let len = tried.len;
-    let mut k: usize = 0;
-    while k < len {
-        let t = tried.items[k];
-        let trace = blocked_trace(us, ss, n, t);
-        all = all.stall(trace);
-        k += 1;
+    for k in 0..tried.len {
+        log.stall(blocked_trace(us, ss, n, tried.items[k]));
     }
-    all
 }

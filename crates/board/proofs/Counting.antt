@@ -9,7 +9,8 @@ use native.Mathlib.Nat.{not-suc-le-zero, le_of_suc-le-suc}
 use lib.Dec.{eqb}
 use lib.ListN.{length, get_or, set}
 use borrow.Author.Tests.{eqb-true, eqb-false}
-use Rattle.laws.specs.Lists.{All, any, count, elem}
+use Rattle.laws.specs.Lists.{All, count, elem}
+use Rattle.std.specs.List.{list_any}
 use Rattle.laws.proofs.Tests.{cond-ne, true-or-false}
 use Rattle.stalls.specs.declared.Trace.{Trace}
 use Rattle.bank.specs.View.{places}
@@ -31,21 +32,21 @@ module _ {A : Type 0} (q : A → Bool) where
   count_set (y ∷ ys) zero x d h = omega arith
   count_set (y ∷ ys) (suc i) x d h = omega (arith, count_set ys i x d (le_of_suc-le-suc h))
 
-  pub any-count : (l : List A) → any q l ≡ true → 1 ≤ count q l
-  unfolding any count
+  pub any-count : (l : List A) → list_any q l ≡ true → 1 ≤ count q l
+  unfolding count
   any-count [] e = absurd (let z : ◌≡◌ {A = ℕ} 0 1 = cc in omega arith)
   any-count (x ∷ xs) e = go (q x) (any-count xs) e
     where
-      go : (b : Bool) → (any q xs ≡ true → 1 ≤ count q xs) → (b || any q xs) ≡ true → 1 ≤ cond b 1 0 + count q xs
+      go : (b : Bool) → (list_any q xs ≡ true → 1 ≤ count q xs) → (b || list_any q xs) ≡ true → 1 ≤ cond b 1 0 + count q xs
       go true f e = omega arith
       go false f e = omega (arith, f e)
 
-  pub count-any : (l : List A) → 1 ≤ count q l → any q l ≡ true
-  unfolding any count
+  pub count-any : (l : List A) → 1 ≤ count q l → list_any q l ≡ true
+  unfolding count
   count-any [] h = absurd (let z : ⊥ = omega arith in z)
   count-any (x ∷ xs) h = go (q x) (count-any xs) h
     where
-      go : (b : Bool) → (1 ≤ count q xs → any q xs ≡ true) → 1 ≤ cond b 1 0 + count q xs → (b || any q xs) ≡ true
+      go : (b : Bool) → (1 ≤ count q xs → list_any q xs ≡ true) → 1 ≤ cond b 1 0 + count q xs → (b || list_any q xs) ≡ true
       go true f h = refl
       go false f h = f (omega arith)
 

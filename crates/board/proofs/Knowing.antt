@@ -7,18 +7,7 @@ use Rattle.laws.specs.Lists.{All, modify}
 use Rattle.laws.proofs.Slices.{take-map, All-map, All-modify}
 use Rattle.laws.proofs.Kept.{All-keep}
 use Rattle.capability.specs.declared.PipelineHazardKind.{PipelineHazardKind}
-use Rattle.model.specs.Units.{
-  FunctionalUnit,
-  with_busy,
-  idle_unit,
-  clear,
-  clear_hazard,
-  mark_hazard,
-  without_waits,
-  tick,
-  begin,
-  read_one,
-}
+use Rattle.model.specs.Units.{FunctionalUnit, with_busy, idle_unit, clear, clear_hazard, mark_hazard, without_waits, tick, begin, read_one}
 use Rattle.flight.specs.View.{Legend, nothing_carried}
 use Rattle.units.specs.declared.Unit.{Unit as Slot}
 use Rattle.units.specs.View.{view_unit}

@@ -3,7 +3,7 @@ use Prim.Native.Nat.{ℕ, ◌<◌}
 use mathlib.Core.Path.{◌≡◌, refl, sym, subst, ap, ap₂, ◌∙◌}
 use mathlib.Core.Bool.{Bool, true, false, not, ◌&&◌, ◌||◌}
 use mathlib.Core.Logic.{◌⊎◌, inl, inr}
-use mathlib.Core.Option.{Option, none}
+use Rattle.std.specs.Prelude.{Option, None}
 use mathlib.Core.List.{List, [], ◌∷◌, map, map-map}
 use native.Mathlib.Omega.{arith}
 use lib.ListN.{length, get_or, take}
@@ -17,16 +17,13 @@ use Rattle.model.specs.Registers.{release_held, release, release_all}
 use Rattle.model.specs.Units.{FunctionalUnit, idle_unit, unit_at}
 use Rattle.model.specs.State.{Marks, Offer, Front, Log as ModelLog, state}
 use Rattle.registers.specs.declared.Claims.{Claims}
-use Rattle.registers.specs.View.{view_claims, ClaimsOk}
+use Rattle.registers.specs.View.{view_claims, ClaimsOk, view_operands}
 use Rattle.registers.specs.Look.{Queued as Along}
 use Rattle.registers.proofs.Owing.{claims-length}
-use Rattle.flight.specs.declared.MaybeHazard.TheVariants.{Nothing}
 use Rattle.flight.specs.declared.Queued.{Queued}
 use Rattle.flight.specs.declared.Queue.{Queue}
-use Rattle.flight.specs.View.{Legend, view_operands, view_queue, entries}
+use Rattle.flight.specs.View.{Legend, view_queue, entries}
 use Rattle.flight.specs.Promises.{hazardous, Queues}
-use Rattle.op.specs.declared.MaybeText.{MaybeText}
-use Rattle.op.specs.View.{view_maybe_text}
 use Rattle.stalls.specs.declared.Log.{Log}
 use Rattle.stalls.specs.View.{Frame as LogFrame, view_log}
 use Rattle.units.specs.declared.Unit.{Unit as Slot}
@@ -35,7 +32,7 @@ use Rattle.bank.specs.declared.Units.{Units}
 use Rattle.bank.specs.View.{view_units, places, UnitsOk}
 use Rattle.bank.proofs.Steps.{places-length, units-next}
 use Rattle.board.specs.declared.Board.{Board}
-use Rattle.board.specs.View.{Frame, known_names, StatusOk}
+use Rattle.board.specs.View.{Frame, known_names}
 use Rattle.board.specs.Promises.{Looks}
 
 -- ── The model's state ───────────────────────────────────────────────────────
@@ -79,19 +76,14 @@ frame-with x ns m = record { legend = x.legend; kinds = x.machine.specs; names =
 pub log-names : (x : Frame) (m : Option Text) (l : Log) {ns ms : List Text} → ns ≡ ms → view_log (frame-with x ns m) l ≡ view_log (frame-with x ms m) l
 log-names x m l e = ap (λ ns. view_log (frame-with x ns m) l) e
 
--- No status: nothing to fit.
-pub no-status : (m : MaybeText) → view_maybe_text m ≡ none → StatusOk m
-unfolding view_maybe_text
-no-status m e t = absurd (let z : ◌≡◌ {A = ℕ} 0 1 = cc in omega arith)
-
 -- ── A flag by the branch that set it ────────────────────────────────────────
 
-pub and-joined : {t m r : Bool} → ((t ≡ true) × (r ≡ false)) ⊎ ((t ≡ false) × (r ≡ m)) → r ≡ (not t && m)
-and-joined {m = m} (inl w) = w.1 ∙ sym (and_no m (not-no w.0))
-and-joined {m = m} (inr w) = w.1 ∙ sym (and-next m (not_yes w.0))
+pub and-joined : {t m r : Bool} → ((t ≡ false) × (r ≡ m)) ⊎ ((t ≡ true) × (r ≡ not t)) → r ≡ (not t && m)
+and-joined {m = m} (inl w) = w.1 ∙ sym (and-next m (not_yes w.0))
+and-joined {m = m} (inr w) = w.1 ∙ not-no w.0 ∙ sym (and_no m (not-no w.0))
 
-pub or-joined : {t m r : Bool} → ((t ≡ true) × (r ≡ true)) ⊎ ((t ≡ false) × (r ≡ m)) → r ≡ (t || m)
-or-joined {m = m} (inl w) = w.1 ∙ sym (or_yes m w.0)
+pub or-joined : {t m r : Bool} → ((t ≡ true) × (r ≡ t)) ⊎ ((t ≡ false) × (r ≡ m)) → r ≡ (t || m)
+or-joined {m = m} (inl w) = w.1 ∙ w.0 ∙ sym (or_yes m w.0)
 or-joined {m = m} (inr w) = w.1 ∙ sym (or-next m w.0)
 
 -- ── The look at the queue ───────────────────────────────────────────────────
@@ -104,13 +96,13 @@ pub record Alike (q r : Queue) : Type 0 where
 pub alike_self : (q : Queue) → Alike q q
 alike_self q = record { names = λ g. refl; numbers = refl }
 
-pub alike-hazards : (q : Queue) {r : Queue} → Queues r (map (hazardous Nothing) (entries q)) (λ g. map (with_hazard none) (view_queue g q)) → Alike q r
+pub alike-hazards : (q : Queue) {r : Queue} → Queues r (map (hazardous None) (entries q)) (λ g. map (with_hazard None) (view_queue g q)) → Alike q r
 alike-hazards q e =
     record {
-      names = λ g. ap (map (λ (o : Op). o.info)) (e.is g) ∙ map-map (λ (o : Op). o.info) (with_hazard none) (view_queue g q);
+      names = λ g. ap (map (λ (o : Op). o.info)) (e.is g) ∙ map-map (λ (o : Op). o.info) (with_hazard None) (view_queue g q);
       numbers =
           ap (map (λ (x : Queued). view_operands x.operands)) e.entries
-          ∙ map-map (λ (x : Queued). view_operands x.operands) (hazardous Nothing) (entries q);
+          ∙ map-map (λ (x : Queued). view_operands x.operands) (hazardous None) (entries q);
     }
 
 pub looks-kept : (x : Frame) (b r : Board) → r.claims.len ≡ b.claims.len → Alike b.queue r.queue → Looks x b → Looks x r

@@ -3,7 +3,7 @@ use Prim.Native.Nat.{ℕ, zero, suc, ◌≤◌, ◌<◌}
 use mathlib.Core.Path.{◌≡◌, refl, sym, subst, ap, ◌∙◌}
 use mathlib.Core.Bool.{Bool, true, false}
 use mathlib.Core.Logic.{◌⊎◌, inl, inr, ⊎_elim}
-use mathlib.Core.Option.{none}
+use Rattle.std.specs.Prelude.{None, slice_get}
 use mathlib.Core.List.{List, [], ◌∷◌, map}
 use native.Mathlib.Omega.{arith}
 use native.Mathlib.Nat.{not-suc-le-zero, le_of_suc-le-suc}
@@ -12,7 +12,7 @@ use lib.ListN.{length, get_or, set, replicate}
 use lib.Seq.{get_or-set_same, get_or-set_other}
 use borrow.Author.Tests.{eqb-true, eqb-false}
 use Rattle.laws.specs.Optional.{value_or}
-use Rattle.laws.specs.Lists.{nth, modify}
+use Rattle.laws.specs.Lists.{modify}
 use Rattle.laws.proofs.Choices.{none-some}
 use Rattle.laws.proofs.Tests.{lt-or-ge, true-or-false}
 use Rattle.laws.proofs.Slices.{nth-modify-other}
@@ -53,14 +53,14 @@ no_offer {us} {v} ok h w e g i t =
     ⊎_elim (λ d. inr (past (places us) (let z : length (places us) ≤ i = omega (arith, d, places-length ok, ok.few) in z))) inr (e g i t)
 
 -- A unit's number is below 64.
-pub unclaimed : {u : ℕ} → claimed u ≡ none → 64 ≤ u
+pub unclaimed : {u : ℕ} → claimed u ≡ None → 64 ≤ u
 unclaimed {u} e = ⊎_elim (λ h. none-some u (sym e ∙ claimed-some h)) (λ h. h) (lt-or-ge u 64)
 
 -- ── Each unit stays as busy as it was ───────────────────────────────────────
 
 module _ (f : FunctionalUnit → FunctionalUnit) (h : (u : FunctionalUnit) → (f u).busy ≡ u.busy) where
   map-busy : (us : List FunctionalUnit) (i : ℕ) → (unit_at (map f us) i).busy ≡ (unit_at us i).busy
-  unfolding unit_at nth
+  unfolding unit_at
   map-busy [] i = refl
   map-busy (u ∷ us) zero = h u
   map-busy (u ∷ us) (suc i) = map-busy us i
@@ -93,7 +93,7 @@ other_busy f us n = ap (λ o. (value_or (idle_unit 0 0) o).busy) (nth-modify-oth
 
 own-busy : (f : FunctionalUnit → FunctionalUnit) (us : List FunctionalUnit) {b : Bool} {i : ℕ} → i < length us → ((u : FunctionalUnit) → (f u).busy ≡ b)
     → (unit_at (modify i f us) i).busy ≡ b
-unfolding unit_at nth modify
+unfolding unit_at modify
 own-busy f [] h k = absurd (not-suc-le-zero h)
 own-busy f (u ∷ us) {i = zero} h k = k u
 own-busy f (u ∷ us) {i = suc i} h k = own-busy f us (le_of_suc-le-suc h) k
@@ -152,7 +152,7 @@ empty-out us {r} m e w k v g i t = ⊎_elim (λ d. inl (eqb-true i w d)) other (
 
 modify-busy : (f : FunctionalUnit → FunctionalUnit) → ((u : FunctionalUnit) → (f u).busy ≡ u.busy) → (j : ℕ) (us : List FunctionalUnit) (i : ℕ)
     → (unit_at (modify j f us) i).busy ≡ (unit_at us i).busy
-unfolding unit_at nth modify
+unfolding unit_at modify
 modify-busy f h j [] i = refl
 modify-busy f h zero (u ∷ us) zero = h u
 modify-busy f h zero (u ∷ us) (suc i) = refl

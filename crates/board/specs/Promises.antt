@@ -1,6 +1,5 @@
 -- What the steps of a cycle say of the board that they hand back.
-use Rattle.std.specs.Prelude.{ℕ, ◌+◌, ◌≤◌, ◌<◌, ◌≡◌, true, false, ◌⊎◌, List, [], ◌∷◌, ◌++◌, map, eqb, length, get_or, replicate}
-use Rattle.std.proofs.Math.Option.{Option, none, some}
+use Rattle.std.specs.Prelude.{ℕ, ◌+◌, ◌≤◌, ◌<◌, ◌≡◌, true, false, ◌⊎◌, List, [], ◌∷◌, ◌++◌, map, eqb, length, get_or, replicate, Option, None, Some}
 use Rattle.laws.specs.Lists.{All, count, elem}
 use Rattle.model.specs.Op.{Op}
 use Rattle.model.specs.Timeline.{Row}
@@ -11,7 +10,8 @@ use Rattle.model.specs.Issue.{complete_at, redirected, tick_execute, start_ready
 use Rattle.model.specs.Scoreboard.{closed, clear_status, invite}
 use Rattle.registers.specs.Look.{Queued as Along}
 use Rattle.flight.specs.declared.Queued.{Queued}
-use Rattle.flight.specs.View.{Legend, view_operands, view_queue, entries}
+use Rattle.flight.specs.View.{Legend, view_queue, entries}
+use Rattle.registers.specs.View.{view_operands}
 use Rattle.stalls.specs.declared.Trace.{Trace}
 use Rattle.stalls.specs.View.{listed}
 use Rattle.stalls.specs.Promises.{NoRedirect}
@@ -113,8 +113,8 @@ pub record Fresh (us : Units) (entry : ℕ) (r : Board) : Type 0 where
   pub is
       : (x : Frame)
       → view_board x r
-      ≡ state x.machine (view_units x.legend us) [] [] [] (marks false false) (offer_of none false)
-      (front_of false false false false false entry x.next x.next) (log_of no_stats [] x.rows none)
+      ≡ state x.machine (view_units x.legend us) [] [] [] (marks false false) (offer_of None false)
+      (front_of false false false false false entry x.next x.next) (log_of no_stats [] x.rows None)
   pub ok : BoardOk r
   pub units : r.units ≡ us
   pub queue : entries r.queue ≡ []
@@ -183,8 +183,8 @@ pub record Redirects (b r : Board) (target : Option ℕ) : Type 0 where
   pub step : Advances 1 b r
   pub vacant : Vacant b → Vacant r
   pub offer : r.offer ≡ b.offer
-  pub stays : target ≡ none → (x : Frame) → Looks x b → Looks x r
-  pub dropped : (t : ℕ) → target ≡ some t → entries r.queue ≡ []
+  pub stays : target ≡ None → (x : Frame) → Looks x b → Looks x r
+  pub dropped : (t : ℕ) → target ≡ Some t → entries r.queue ≡ []
   pub known : r.claims.len ≡ b.claims.len
 
 -- Execute and read operands.

@@ -1,12 +1,11 @@
 -- What the board means to the model: with a frame, which has what a cycle does not work on, it is the model's engine.
-use Rattle.std.specs.Prelude.{ℕ, ◌≤◌, ◌<◌, ◌≡◌, true, List, take}
+use Rattle.std.specs.Prelude.{ℕ, ◌≤◌, ◌<◌, List, take, option_map}
 use Rattle.laws.specs.Lists.{All}
 use Rattle.laws.specs.Texts.{Text}
 use Rattle.model.specs.Config.{Machine}
 use Rattle.model.specs.Timeline.{Row}
 use Rattle.model.specs.State.{marks, offer_of, front_of, State, state}
-use Rattle.op.specs.declared.MaybeText.{MaybeText}
-use Rattle.op.specs.View.{view_maybe_text}
+use Rattle.op.specs.Chars.{Fits, view_text}
 use Rattle.registers.specs.View.{claimed as index, view_claims, ClaimsOk}
 use Rattle.flight.specs.View.{Legend, view_queue, QueueOk}
 use Rattle.stalls.specs.View.{Frame as LogFrame, listed, view_log, LogOk}
@@ -34,7 +33,7 @@ log_frame f b =
       kinds = f.machine.specs;
       names = known_names f b;
       rows = f.rows;
-      status = view_maybe_text b.status;
+      status = option_map view_text b.status;
     }
 
 unfoldable pub view_board : Frame → Board → State
@@ -63,17 +62,13 @@ board_of s us =
 
 -- ── When it is well formed ──────────────────────────────────────────────────
 
--- A text that is there fits its array.
-abbrev pub StatusOk : MaybeText → Type 0
-StatusOk m = m.some ≡ true → m.text.len ≤ 64
-
 pub record BoardOk (b : Board) : Type 0 where
   pub units : UnitsOk b.units
   pub queue : QueueOk b.queue
   pub claims : ClaimsOk b.claims
   pub log : LogOk b.log
   pub offer : b.offer.writing < 64 → b.offer.writing < b.units.len
-  pub status : StatusOk b.status
+  pub status : Fits b.status
   pub gone : b.gone ≤ 80
   -- Registers that a unit writes or waits for, or a wait names, are known.
   pub knows : All (UnitKnows b.claims.len) (slots b.units)

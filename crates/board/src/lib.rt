@@ -2,12 +2,11 @@
 #![tactic(auto)]
 
 ghost use Rattle.std.specs.Prelude.{◌≡◌, true, false, ◌||◌, ◌≤◌, ◌<◌, replicate};
-ghost use Rattle.std.proofs.Math.Option.{none};
 ghost use Rattle.laws.specs.Lists.{All};
 ghost use Rattle.model.specs.State.{with_front, with_turn, marks};
 ghost use Rattle.model.specs.Write.{offered_branch, retire, retry, stopped, abandon};
 ghost use Rattle.model.specs.Scoreboard.{may_fetch, invite};
-ghost use Rattle.op.specs.View.{view_text, view_maybe_number};
+ghost use Rattle.op.specs.Chars.{view_text};
 ghost use Rattle.stalls.specs.View.{listed, LogOk};
 ghost use Rattle.stalls.specs.Promises.{NoRedirect};
 ghost use Rattle.bank.specs.View.{slots, places, UnitsOk, UnitKnows};
@@ -18,7 +17,7 @@ ghost use Rattle.board.specs.Promises.{no_front, Fresh, Opens, Stays, Drops, Com
 
 use bank::Units;
 use flight::Queue;
-use op::{MaybeNumber, MaybeText, Text};
+use op::Text;
 use registers::Claims;
 use stalls::Log;
 use units::is_system;
@@ -58,7 +57,7 @@ pub struct Board {
     pub log: Log,
     pub marks: Marks,
     pub gone: u8,
-    pub status: MaybeText,
+    pub status: Option<Text>,
 }
 
 // A board without its units, which are lent: rows of bytes and numbers, of which the first n count.
@@ -72,7 +71,7 @@ pub struct Sequencer {
     pub log: Log,
     pub marks: Marks,
     pub gone: u8,
-    pub status: MaybeText,
+    pub status: Option<Text>,
 }
 
 impl Front {
@@ -92,7 +91,7 @@ impl Front {
     pub fn stops(self) -> bool
         ensures { result ≡ self.halted || self.faulted }
     {
-        if self.halted { true } else { self.faulted }
+        self.halted || self.faulted
     }
 }
 
@@ -104,30 +103,23 @@ impl Board {
         requires all { All (UnitKnows 0) (slots units) }
         ensures { Fresh units entry result }
     {
-        let queue = Queue::new();
-        let claims = Claims::new();
-        let log = Log::new();
-        let front = Front::new();
-        let status = MaybeText::none();
-        let offer = Offer {
-            writing: 64,
-            retired: false,
-        };
-        let marks = Marks {
-            branch: false,
-            system: false,
-        };
         Board {
             units,
             fetch_pc: entry,
-            queue,
-            offer,
-            claims,
-            front,
-            log,
-            marks,
+            queue: Queue::new(),
+            offer: Offer {
+                writing: 64,
+                retired: false,
+            },
+            claims: Claims::new(),
+            front: Front::new(),
+            log: Log::new(),
+            marks: Marks {
+                branch: false,
+                system: false,
+            },
             gone: 80,
-            status,
+            status: None,
         }
     }
 
@@ -138,14 +130,8 @@ impl Board {
         requires len_bound { reason.len ≤ 64 }
         ensures { Stays self result (retry (view_text reason)) }
     {
-        let units = self.units;
-        let us = units.set_busy(self.offer.writing, true);
-        let status = MaybeText {
-            some: true,
-            text: reason,
-        };
-        self.units = us;
-        self.status = status;
+        self.units.set_busy(self.offer.writing, true);
+        self.status = Some(reason);
         self.offer.writing = 64;
         self.offer.retired = false;
         self
@@ -156,15 +142,9 @@ impl Board {
         requires { BoardOk self }
         ensures { Drops self result (λ s. with_front (with_turn s.front.in_cycle false s.front) (abandon s)) }
     {
-        let units = self.units;
-        let queue = self.queue;
-        let claims = self.claims;
-        let us = units.clear();
-        let q = queue.flushed();
-        let c = claims.clear_claims();
-        self.units = us;
-        self.queue = q;
-        self.claims = c;
+        self.units.clear();
+        self.queue.flush();
+        self.claims.clear_claims();
         self.marks.branch = false;
         self.marks.system = false;
         self.offer.writing = 64;
@@ -180,13 +160,9 @@ impl Board {
         ensures { Drops self result (stopped halts faults (view_text note)) }
     {
         let mut b = self.abandon();
-        let status = MaybeText {
-            some: true,
-            text: note,
-        };
-        b.status = status;
-        b.front.halted = if halts { true } else { b.front.halted };
-        b.front.faulted = if faults { true } else { b.front.faulted };
+        b.status = Some(note);
+        b.front.halted = halts || b.front.halted;
+        b.front.faulted = faults || b.front.faulted;
         b
     }
 }
@@ -196,23 +172,16 @@ impl Sequencer {
     pub fn of(board: Board) -> Sequencer
         ensures { board ≡ board_of result board.units }
     {
-        let queue = board.queue;
-        let offer = board.offer;
-        let claims = board.claims;
-        let front = board.front;
-        let log = board.log;
-        let marks = board.marks;
-        let status = board.status;
         Sequencer {
             fetch_pc: board.fetch_pc,
-            queue,
-            offer,
-            claims,
-            front,
-            log,
-            marks,
+            queue: board.queue,
+            offer: board.offer,
+            claims: board.claims,
+            front: board.front,
+            log: board.log,
+            marks: board.marks,
             gone: board.gone,
-            status,
+            status: board.status,
         }
     }
 
@@ -220,24 +189,17 @@ impl Sequencer {
     pub fn board(self, units: Units) -> Board
         ensures { result ≡ board_of self units }
     {
-        let queue = self.queue;
-        let offer = self.offer;
-        let claims = self.claims;
-        let front = self.front;
-        let log = self.log;
-        let marks = self.marks;
-        let status = self.status;
         Board {
             units,
             fetch_pc: self.fetch_pc,
-            queue,
-            offer,
-            claims,
-            front,
-            log,
-            marks,
+            queue: self.queue,
+            offer: self.offer,
+            claims: self.claims,
+            front: self.front,
+            log: self.log,
+            marks: self.marks,
             gone: self.gone,
-            status,
+            status: self.status,
         }
     }
 
@@ -249,13 +211,9 @@ impl Sequencer {
         ensures is { Opens (board_of self (units_of us.old ss.old n)) (board_of result (units_of us.new ss.new n)) }
         ensures size { Sized us.new ss.new }
     {
-        let queue = self.queue;
-        let log = self.log;
         stepping::clear_hazards(us, ss, n);
-        let q = queue.clear_hazards();
-        let l = log.opened();
-        self.queue = q;
-        self.log = l;
+        self.queue.clear_hazards();
+        self.log.open();
         self.front.in_cycle = true;
         self.front.invited = false;
         self.gone = 80;
@@ -267,11 +225,7 @@ impl Sequencer {
         requires { LogOk self.log }
         ensures { (us : Units) → BoardOk (board_of self us) → self.offer.writing < 64 → ((x : Frame) → branch ≡ offered_branch (view_board x (board_of self us))) → Stays (board_of self us) (board_of result us) retire }
     {
-        let mut log = self.log;
-        let stats = log.stats;
-        let counted = stalls::stats::count_retired(stats, branch);
-        log.stats = counted;
-        self.log = log;
+        stalls::stats::count_retired(&mut self.log.stats, branch);
         self.offer.retired = true;
         self
     }
@@ -301,18 +255,11 @@ impl Sequencer {
         ensures is { Completes (board_of self (units_of us.old ss.old n)) at (board_of result (units_of us.new ss.new n)) }
         ensures size { Sized us.new ss.new }
     {
-        let claims = self.claims;
         let u = slots::unit_at(us, ss, at);
-        let operands = u.operands;
-        let class = u.class;
-        let destinations = operands.destinations;
         stepping::completed(us, ss, n, at);
-        let c = claims.release_all(destinations, operands.destinations_len, at as u8);
-        let branch = self.marks.branch;
-        let system = self.marks.system;
-        self.claims = c;
-        self.marks.branch = if u.redirects { false } else { branch };
-        self.marks.system = if is_system(class) { false } else { system };
+        self.claims.release_all(u.operands.writes(), at as u8);
+        self.marks.branch = !u.redirects && self.marks.branch;
+        self.marks.system = !is_system(u.class) && self.marks.system;
         self.offer.writing = 64;
         self.offer.retired = false;
         self.gone = u.place;
@@ -321,22 +268,17 @@ impl Sequencer {
 
     // The status goes; on a redirect the queue too.
     // model: Issue.redirected, after Scoreboard.clear_status; the rows' cells aside
-    pub fn redirected(mut self, redirect: MaybeNumber) -> Sequencer
+    pub fn redirected(mut self, redirect: Option<u64>) -> Sequencer
         requires queue_ok { QueueOk self.queue }
         requires log_ok { LogOk self.log }
         requires len_bound { self.log.traces.len ≤ 64 }
         requires all { All NoRedirect (listed self.log.traces) }
-        ensures { (us : Units) → BoardOk (board_of self us) → Redirects (board_of self us) (board_of result us) (view_maybe_number redirect) }
+        ensures { (us : Units) → BoardOk (board_of self us) → Redirects (board_of self us) (board_of result us) redirect }
     {
-        let status = MaybeText::none();
-        self.status = status;
-        if let MaybeNumber::Some(target) = redirect {
-            let queue = self.queue;
-            let log = self.log;
-            let l = log.redirected(target, queue.len);
-            let q = queue.flushed();
-            self.queue = q;
-            self.log = l;
+        self.status = None;
+        if let Some(target) = redirect {
+            self.log.redirect(target, self.queue.len);
+            self.queue.flush();
             self.fetch_pc = target;
         }
         self
@@ -348,18 +290,8 @@ impl Sequencer {
         requires board_ok { BoardOk (board_of self (units_of us.now ss.now n)) }
         ensures { (x : Frame) → x.machine.depth ≡ depth → result ≡ may_fetch (view_board x (board_of self (units_of us.now ss.now n))) }
     {
-        let queue = self.queue;
-        if depth <= queue.len {
-            return false;
-        }
-        if self.front.enabled {
-            return true;
-        }
-        if queue.len == 0 {
-            !stepping::any_busy(us, ss, n)
-        } else {
-            false
-        }
+        self.queue.len < depth
+            && (self.front.enabled || self.queue.len == 0 && !stepping::any_busy(us, ss, n))
     }
 
     // model: Scoreboard.invite
@@ -368,8 +300,7 @@ impl Sequencer {
         requires board_ok { BoardOk (board_of self (units_of us.now ss.now n)) }
         ensures { Invites (board_of self (units_of us.now ss.now n)) depth (board_of result (units_of us.now ss.now n)) }
     {
-        let invited = self.may_fetch(us, ss, n, depth);
-        self.front.invited = invited;
+        self.front.invited = self.may_fetch(us, ss, n, depth);
         self
     }
 }

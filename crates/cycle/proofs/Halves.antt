@@ -1,13 +1,14 @@
 -- The two halves of a cycle: registers stay known, waits name places of units, and a unit that has read its operands tells the wait that it told before.
-use Prim.Native.Nat.{ℕ}
+use Rattle.std.proofs.Common.{ℕ, ◌≤◌, ◌<◌, unwrap_or, arith}
+use Rattle.std.specs.Option.{IfSome}
 use mathlib.Core.Path.{◌≡◌, refl, sym, ap, ◌∙◌}
 use mathlib.Core.Bool.{Bool, true, false, cond, not, ◌&&◌}
-use mathlib.Core.Option.{Option, none, some}
+use Rattle.std.specs.Prelude.{Option, None, Some, option_map, slice_get}
 use mathlib.Core.List.{List, [], ◌∷◌, map, map-id}
 use lib.Dec.{eqb}
 use lib.ListN.{length}
-use Rattle.laws.specs.Optional.{value_or, omap}
-use Rattle.laws.specs.Lists.{All, nth, is_empty, keep}
+use Rattle.laws.specs.Optional.{value_or}
+use Rattle.laws.specs.Lists.{All, is_empty, keep}
 use Rattle.laws.specs.Texts.{Text}
 use Rattle.laws.proofs.Tests.{and-no-second}
 use Rattle.laws.proofs.Maps.{nth-map, keep-map, map-swap}
@@ -20,6 +21,8 @@ use Rattle.model.specs.Traces.{Trace as Wait, waits_for, trace_of, EXECUTE, ISSU
 use Rattle.model.specs.Units.{FunctionalUnit, with_busy, idle_unit, unit_at, in_phase, mark_hazard, waits, read_one, tick, begin}
 use Rattle.model.specs.Write.{Blocked, blocked_kind, mark_blocked, take_out}
 use Rattle.model.specs.Issue.{producer_text, wait_detail, wait_trace}
+use Rattle.registers.specs.View.{claimed}
+use Rattle.registers.proofs.Owing.{claimed-some, claimed-none}
 use Rattle.stalls.specs.declared.TraceList.{TraceList}
 use Rattle.stalls.specs.declared.Log.{Log}
 use Rattle.stalls.specs.View.{Frame as LogFrame, listed, TraceListOk}
@@ -43,8 +46,8 @@ module _ (n : ℕ) where
 
   pub taken-knows : (o : Option ℕ) (us : List FunctionalUnit) → All (Knows n) us → All (Knows n) (take_out o us)
   unfolding take_out
-  taken-knows none us a = a
-  taken-knows (some i) us a = knows-modify n i (with_busy false) (busy-knows n false) us a
+  taken-knows None us a = a
+  taken-knows (Some i) us a = knows-modify n i (with_busy false) (busy-knows n false) us a
 
   pub stepped-knows : (us : List FunctionalUnit) → All (Knows n) us → All (Knows n) (map read_one (map begin (map tick us)))
   stepped-knows us a =
@@ -58,6 +61,17 @@ pub told_names : {us : Units} {l r : Log} {ws : LogFrame → List Wait} (qs : Li
     → All (Names qs) (listed l.traces) → All (Names qs) (listed r.traces)
 told_names {us} qs h e a =
     tells_all (Names qs) e (λ t w. (names_more (places us) qs h (t ∷ []) (record { mine = w.mine; other = w.other }, tt)).0) a
+
+-- ── The offer ───────────────────────────────────────────────────────────────
+
+-- A unit found among at most 64, as the number of its place; 64 for none.
+pub offered : (o : Option ℕ) {n : ℕ} → n ≤ 64 → IfSome o (λ (i : ℕ). i < n) → claimed (unwrap_or o 64) ≡ o
+offered None few h = claimed-none (omega arith)
+offered (Some i) few h = claimed-some (omega (arith, few, h))
+
+pub offered-inside : (o : Option ℕ) {n : ℕ} → IfSome o (λ (i : ℕ). i < n) → unwrap_or o 64 < 64 → unwrap_or o 64 < n
+offered-inside None h w = absurd (omega arith)
+offered-inside (Some i) h w = h
 
 -- Nothing is listed.
 pub none-listed : {t : TraceList} → TraceListOk t → listed t ≡ [] → t.len ≡ 0
@@ -78,16 +92,16 @@ read-waits u = go (is_empty u.pending)
 
 read-producer : (us : List FunctionalUnit) (j : ℕ) → producer_text (unit_at (map read_one us) j) ≡ producer_text (unit_at us j)
 unfolding unit_at producer_text mnemonic read_one
-read-producer us j = ap (λ o. producer_text (value_or (idle_unit 0 0) o)) (nth-map read_one us j) ∙ go (nth us j)
+read-producer us j = ap (λ o. producer_text (value_or (idle_unit 0 0) o)) (nth-map read_one us j) ∙ go (slice_get us j)
   where
-    go : (o : Option FunctionalUnit) → producer_text (value_or (idle_unit 0 0) (omap read_one o)) ≡ producer_text (value_or (idle_unit 0 0) o)
-    go none = refl
-    go (some u) = refl
+    go : (o : Option FunctionalUnit) → producer_text (value_or (idle_unit 0 0) (option_map read_one o)) ≡ producer_text (value_or (idle_unit 0 0) o)
+    go None = refl
+    go (Some u) = refl
 
 read-trace : (us : List FunctionalUnit) (ns : List Text) (u : FunctionalUnit) → wait_trace (map read_one us) ns (read_one u) ≡ wait_trace us ns u
 unfolding wait_trace wait_detail mnemonic read_one
 read-trace us ns u =
-    let p = value_or (0, 0) (nth u.pending 0) in
+    let p = value_or (0, 0) (slice_get u.pending 0) in
     ap (λ o. trace_of ReadAfterWrite EXECUTE ISSUE (waits_for (mnemonic u.op) (name_of ns p.0) o)) (read-producer us p.1)
 
 pub read-traces : (us : List FunctionalUnit) (ns : List Text)

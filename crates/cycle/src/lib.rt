@@ -1,9 +1,9 @@
 // The two halves of a cycle that units tell of: the start, which offers a result, and the work between the write and the issue.
 #![tactic(auto)]
 
-ghost use Rattle.std.specs.Prelude.{◌≡◌, [], ◌≤◌, ◌<◌};
+ghost use Rattle.std.specs.Prelude.{◌≡◌, ℕ, [], ◌≤◌, ◌<◌};
+ghost use Rattle.std.specs.Option.{IfSome};
 ghost use Rattle.model.specs.Write.{take_out, offer_found, start_cycle};
-ghost use Rattle.registers.specs.View.{claimed as index};
 ghost use Rattle.stalls.specs.View.{listed};
 ghost use Rattle.bank.specs.View.{view_units, places};
 ghost use Rattle.slots.specs.View.{units_of, Sized, Lent, LentAre};
@@ -15,41 +15,39 @@ use board::Sequencer;
 use writing::Tried;
 
 // model: Write.take_out
-fn taken_out(us: &mut [[u8; 40]], ss: &mut [u64], n: usize, found: usize)
+#[tactic(auto, unfolding(model::specs::Write::take_out))]
+fn taken_out(us: &mut [[u8; 40]], ss: &mut [u64], n: usize, found: Option<usize>)
     requires lent { Lent us.old ss.old n }
-    requires found_lt_n { found < 64 → found < n }
-    ensures { LentAre us.new ss.new n (λ g. take_out (index found) (view_units g (units_of us.old ss.old n))) (places (units_of us.old ss.old n)) }
+    requires found_lt_n { IfSome found (λ (at : ℕ). at < n) }
+    ensures { LentAre us.new ss.new n (λ g. take_out found (view_units g (units_of us.old ss.old n))) (places (units_of us.old ss.old n)) }
 {
-    if found < 64 {
-        stepping::set_busy(us, ss, n, found, false);
+    if let Some(at) = found {
+        stepping::set_busy(us, ss, n, at, false);
     }
 }
 
 // model: Write.offer_found
 fn offer_found(
-    board: Sequencer,
+    mut board: Sequencer,
     us: &mut [[u8; 40]],
     ss: &mut [u64],
     n: usize,
-    tried: Tried,
+    tried: &Tried,
 ) -> Sequencer
     requires sized { Sized us.old ss.old }
     requires board_ok { BoardOk (board_of board (units_of us.old ss.old n)) }
-    requires tried_ok { TriedOk (units_of us.old ss.old n) tried }
+    requires tried_ok { TriedOk (units_of us.old ss.old n) tried.now }
     requires traces_value { listed board.log.traces ≡ [] }
     requires gone_value { board.gone ≡ 80 }
-    ensures is { Starts (board_of board (units_of us.old ss.old n)) (board_of result (units_of us.new ss.new n)) (offer_found (view_tried tried)) }
+    ensures is { Starts (board_of board (units_of us.old ss.old n)) (board_of result (units_of us.new ss.new n)) (offer_found (view_tried tried.now)) }
     ensures size { Sized us.new ss.new }
 {
-    let mut b = board;
-    let log = b.log;
-    let l = blocking::list_blocked(us, ss, n, tried, log);
+    blocking::list_blocked(us, ss, n, tried, &mut board.log);
     writing::mark_blocked(us, ss, n, tried);
     taken_out(us, ss, n, tried.found);
-    b.log = l;
-    b.offer.writing = tried.found;
-    b.offer.retired = false;
-    b
+    board.offer.writing = tried.found.unwrap_or(64);
+    board.offer.retired = false;
+    board
 }
 
 // model: Write.start_cycle
@@ -59,23 +57,20 @@ pub fn start(board: Sequencer, us: &mut [[u8; 40]], ss: &mut [u64], n: usize) ->
     ensures is { Starts (board_of board (units_of us.old ss.old n)) (board_of result (units_of us.new ss.new n)) start_cycle }
     ensures size { Sized us.new ss.new }
 {
-    let b = board.opened(us, ss, n);
+    let opened = board.opened(us, ss, n);
     let tried = writing::writable_unit(us, ss, n);
-    offer_found(b, us, ss, n, tried)
+    offer_found(opened, us, ss, n, &tried)
 }
 
 // model: Issue.tick_execute, start_ready, read_operands
-pub fn stepped(board: Sequencer, us: &mut [[u8; 40]], ss: &mut [u64], n: usize) -> Sequencer
+pub fn stepped(mut board: Sequencer, us: &mut [[u8; 40]], ss: &mut [u64], n: usize) -> Sequencer
     requires sized { Sized us.old ss.old }
     requires board_ok { BoardOk (board_of board (units_of us.old ss.old n)) }
     requires len_bound { board.log.traces.len ≤ 65 }
     ensures is { Works (board_of board (units_of us.old ss.old n)) (board_of result (units_of us.new ss.new n)) }
     ensures size { Sized us.new ss.new }
 {
-    let mut b = board;
-    let log = b.log;
     stepping::stepped(us, ss, n);
-    let l = telling::list_waits(us, ss, n, log);
-    b.log = l;
-    b
+    telling::list_waits(us, ss, n, &mut board.log);
+    board
 }

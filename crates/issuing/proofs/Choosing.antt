@@ -10,24 +10,13 @@ use Rattle.model.specs.Config.{spec_index}
 use Rattle.model.specs.Op.{Op, mnemonic}
 use Rattle.model.specs.Registers.{Operands, resolve}
 use Rattle.model.specs.State.{State}
-use Rattle.model.specs.Issue.{
-  block_issue,
-  is_free,
-  free_unit,
-  taken,
-  learn,
-  place,
-  issue_to,
-  issue_looked,
-  issue_choose,
-  issue_front,
-  issue,
-}
+use Rattle.model.specs.Issue.{block_issue, is_free, free_unit, taken, learn, place, issue_to, issue_looked, issue_choose, issue_front, issue}
 use Rattle.config.specs.declared.Machine.{Machine}
 use Rattle.config.specs.View.{view_machine}
 use Rattle.registers.specs.Look.{Numbers, with_names}
 use Rattle.flight.specs.declared.Queued.{Queued}
-use Rattle.flight.specs.View.{read, written, view_operands, view_queued, view_queue, op_with, entries, QueueOk}
+use Rattle.flight.specs.View.{view_queued, view_queue, op_with, entries, QueueOk}
+use Rattle.registers.specs.View.{read, written, view_operands}
 use Rattle.flight.proofs.Entries.{view-entries, queue-length}
 use Rattle.timeline.specs.declared.WaitForm.{WaitForm}
 use Rattle.timeline.specs.declared.WaitForm.TheVariants.{BehindBranch, BehindSystem}

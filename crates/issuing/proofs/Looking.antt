@@ -3,12 +3,12 @@ use Prim.Native.Nat.{ℕ, zero, suc, ◌≤◌, ◌<◌, max}
 use mathlib.Core.Path.{◌≡◌, refl, sym, subst, ap, ap₂, ◌∙◌}
 use mathlib.Core.Bool.{true, false}
 use mathlib.Core.Logic.{⊎_elim}
-use mathlib.Core.Option.{Option, none, some}
+use Rattle.std.specs.Prelude.{Option, None, Some, is_some}
 use mathlib.Core.List.{List, [], ◌∷◌, ◌++◌, map}
 use native.Mathlib.Omega.{arith}
 use lib.ListN.{length, get_or, take, replicate, length-take, length-replicate}
 use lib.Seq.{length-take-le}
-use Rattle.laws.specs.Optional.{is_some, value_or, when_some}
+use Rattle.laws.specs.Optional.{value_or, when_some}
 use Rattle.laws.specs.Lists.{All, rest}
 use Rattle.laws.specs.Texts.{Text, bytes}
 use Rattle.laws.proofs.Choices.{none-some, some_inj}
@@ -18,37 +18,25 @@ use Rattle.model.specs.Config.{UnitSpec}
 use Rattle.model.specs.Op.{Info, Op}
 use Rattle.model.specs.Registers.{Operands, resolve, name_of, pad, producer_of, claim, claim_all}
 use Rattle.model.specs.Traces.{trace_of, overwrites, waits_for, still_writes}
-use Rattle.model.specs.State.{with_registers}
+use Rattle.model.specs.State.{with_registers, log_of}
 use Rattle.model.specs.Issue.{learn, taken, waits_on}
-use Rattle.registers.specs.View.{view_claims, ClaimsOk, view_waits}
+use Rattle.registers.specs.View.{view_claims, ClaimsOk, view_waits, read, written, view_operands}
 use Rattle.registers.specs.declared.Claims.{Claims}
 use Rattle.registers.specs.Look.{through, Numbers, Queued as Along, with_names, known_after}
 use Rattle.registers.proofs.Owing.{pad-length, padded-few, taken-hit, taken-miss, taken-end}
 use Rattle.registers.proofs.Look.{resolve-length, queue-laws}
 use Rattle.flight.specs.declared.Queued.{Queued}
 use Rattle.flight.specs.declared.Queue.{Queue}
-use Rattle.flight.specs.View.{Legend, read, written, view_operands, view_queued, view_queue, entries}
+use Rattle.flight.specs.View.{Legend, view_queued, view_queue, entries}
 use Rattle.flight.proofs.Entries.{view-entries}
 use Rattle.timeline.specs.declared.WaitForm.{WaitForm}
-use Rattle.timeline.specs.declared.WaitForm.TheVariants.{
-  Overwrites,
-  MemoryOrder,
-  Drains,
-  WaitsFor,
-  WaitsForOlder,
-  BehindBranch,
-  BehindSystem,
-  StillWrites,
-  AllBusy,
-  RedirectTo,
-}
+use Rattle.timeline.specs.declared.WaitForm.TheVariants.{Overwrites, MemoryOrder, Drains, WaitsFor, WaitsForOlder, BehindBranch, BehindSystem, StillWrites, AllBusy, RedirectTo}
 use Rattle.timeline.specs.Waits.{detail_of}
 use Rattle.stalls.specs.declared.Trace.{Trace}
 use Rattle.stalls.specs.declared.Log.{Log}
 use Rattle.stalls.specs.View.{form_kind, form_from, form_to, number_word, word_at, view_trace, listed, view_traces, view_stats, view_log}
 use Rattle.stalls.specs.Promises.{names_register, Known}
 use Rattle.stalls.proofs.Logged.{map-all}
-use Rattle.model.specs.State.{log_of}
 use Rattle.units.specs.declared.Unit.{Unit as Slot}
 use Rattle.bank.specs.View.{UnitKnows}
 use Rattle.board.specs.declared.Board.{Board}
@@ -115,24 +103,24 @@ waits-known n ps [] a = tt
 waits-known n ps (r ∷ rs) a = go (producer_of ps r) (waits-known n ps rs a.1)
   where
     go : (o : Option ℕ) → All (λ (p : ℕ × ℕ). p.0 < n) (waits_on ps rs) → All (λ (p : ℕ × ℕ). p.0 < n) (when_some o [] (λ (u : ℕ). (r, u) ∷ []) ++ waits_on ps rs)
-    go none b = b
-    go (some u) b = (a.0, b)
+    go None b = b
+    go (Some u) b = (a.0, b)
 
 -- The destination that somebody writes is one of them.
-pub taken-known : (n : ℕ) (ps : List (Option ℕ)) (rs : List ℕ) {k : ℕ} → taken ps rs ≡ some k → All (λ (r : ℕ). r < n) rs → k < n
+pub taken-known : (n : ℕ) (ps : List (Option ℕ)) (rs : List ℕ) {k : ℕ} → taken ps rs ≡ Some k → All (λ (r : ℕ). r < n) rs → k < n
 taken-known n ps [] {k} e a = none-some k (sym (taken-end ps) ∙ e)
 taken-known n ps (r ∷ rs) {k} e a = ⊎_elim hit (miss (λ d. taken-known n ps rs d a.1)) (true-or-false (is_some (producer_of ps r)))
   where
     hit : is_some (producer_of ps r) ≡ true → k < n
     hit t = subst (λ j. j < n) (some_inj r k (sym (taken-hit ps r t rs) ∙ e)) a.0
 
-    miss : (taken ps rs ≡ some k → k < n) → is_some (producer_of ps r) ≡ false → k < n
+    miss : (taken ps rs ≡ Some k → k < n) → is_some (producer_of ps r) ≡ false → k < n
     miss f t = f (sym (taken-miss ps r t rs) ∙ e)
 
 pub claimed-length : (u : ℕ) (ps : List (Option ℕ)) (rs : List ℕ) → length (claim_all u ps rs) ≡ length ps
 unfolding claim_all claim
 claimed-length u ps [] = refl
-claimed-length u ps (r ∷ rs) = claimed-length u (claim u ps r) rs ∙ length-modify r (λ o. some u) ps
+claimed-length u ps (r ∷ rs) = claimed-length u (claim u ps r) rs ∙ length-modify r (λ o. Some u) ps
 
 -- ── Waits listed before ─────────────────────────────────────────────────────
 
@@ -148,8 +136,8 @@ unfolding names_register detail_of number_word
 detail-more Overwrites ks ns ms k a o t h = ap (λ r. overwrites a r o) (h refl)
 detail-more MemoryOrder ks ns ms k a o t h = refl
 detail-more Drains ks ns ms k a o t h = refl
-detail-more WaitsFor ks ns ms k a o t h = ap (λ r. waits_for a r (some o)) (h refl)
-detail-more WaitsForOlder ks ns ms k a o t h = ap (λ r. waits_for a r none) (h refl)
+detail-more WaitsFor ks ns ms k a o t h = ap (λ r. waits_for a r (Some o)) (h refl)
+detail-more WaitsForOlder ks ns ms k a o t h = ap (λ r. waits_for a r None) (h refl)
 detail-more BehindBranch ks ns ms k a o t h = refl
 detail-more BehindSystem ks ns ms k a o t h = refl
 detail-more StillWrites ks ns ms k a o t h = ap (λ r. still_writes a r) (h refl)

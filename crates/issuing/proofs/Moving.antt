@@ -3,26 +3,26 @@ use Prim.Native.Nat.{ℕ, suc, ◌+◌, ◌≤◌, ◌<◌}
 use mathlib.Core.Path.{◌≡◌, refl, sym, subst, ap, ap₂, ◌∙◌}
 use mathlib.Core.Bool.{true, false, not, cond}
 use mathlib.Core.Logic.{◌⊎◌, inl, inr, ⊎_elim}
-use mathlib.Core.Option.{some}
+use Rattle.std.specs.Prelude.{Some, option_map, slice_get}
 use mathlib.Core.List.{List, [], ◌∷◌, ◌++◌, map}
 use native.Mathlib.Omega.{arith}
 use lib.Dec.{eqb}
 use lib.ListN.{length, get_or, length-append}
 use lib.Seq.{get_or-set_other}
 use borrow.Author.Tests.{eq-eqb, eqb-true, eqb-false, not-true}
-use Rattle.laws.specs.Optional.{value_or, omap}
-use Rattle.laws.specs.Lists.{All, rest, nth, modify, find_at, count, elem}
+use Rattle.laws.specs.Optional.{value_or}
+use Rattle.laws.specs.Lists.{All, rest, modify, find_at, count, elem}
 use Rattle.laws.proofs.Choices.{none-some, some_inj}
 use Rattle.laws.proofs.Tests.{cond_yes, cond-ne, true-or-false, and_both}
 use Rattle.laws.proofs.Slices.{rest-drop, seen-get_or, nth-get_or, nth-modify-same, nth-modify-other, All-append}
 use Rattle.laws.proofs.Search.{find-hit, find-miss, find-end}
 use Rattle.model.specs.Units.{FunctionalUnit, idle_unit, unit_at, occupy}
 use Rattle.model.specs.Issue.{is_free, waits_on}
-use Rattle.registers.specs.View.{view_claims}
-use Rattle.flight.specs.declared.Operands.{Operands}
+use Rattle.registers.specs.View.{view_claims, read, written}
+use Rattle.registers.specs.declared.Operands.{Operands}
 use Rattle.flight.specs.declared.Queued.{Queued}
 use Rattle.flight.specs.declared.Queue.{Queue}
-use Rattle.flight.specs.View.{Legend, read, written, view_queued, entries, QueuedOk, QueueOk}
+use Rattle.flight.specs.View.{Legend, view_queued, entries, QueuedOk, QueueOk}
 use Rattle.flight.proofs.Entries.{entries-length, entries_next, entries-ok}
 use Rattle.timeline.specs.declared.WaitForm.{WaitForm}
 use Rattle.stalls.specs.declared.Trace.{Trace}
@@ -71,12 +71,12 @@ pub record FreeAt (us : List FunctionalUnit) (j i : ℕ) : Type 0 where
   pub here : k < length us
   pub free : (unit_at us k).busy ≡ false
 
-found-free : (spec j : ℕ) (us : List FunctionalUnit) {i : ℕ} → find_at (is_free spec) j us ≡ some i → FreeAt us j i
-unfolding is_free unit_at nth
+found-free : (spec j : ℕ) (us : List FunctionalUnit) {i : ℕ} → find_at (is_free spec) j us ≡ Some i → FreeAt us j i
+unfolding is_free unit_at
 found-free spec j [] {i} e = none-some i (sym (find-end (is_free spec) j) ∙ e)
 found-free spec j (u ∷ us) {i} e = ⊎_elim (hit e) (miss (found-free spec (j + 1) us) e) (true-or-false (is_free spec j u))
   where
-    hit : find_at (is_free spec) j (u ∷ us) ≡ some i → is_free spec j u ≡ true → FreeAt (u ∷ us) j i
+    hit : find_at (is_free spec) j (u ∷ us) ≡ Some i → is_free spec j u ≡ true → FreeAt (u ∷ us) j i
     hit e t =
         record {
           k = 0;
@@ -85,13 +85,13 @@ found-free spec j (u ∷ us) {i} e = ⊎_elim (hit e) (miss (found-free spec (j 
           free = not-true u.busy (and_both (eqb u.spec spec) (not u.busy) t).1;
         }
 
-    miss : (find_at (is_free spec) (j + 1) us ≡ some i → FreeAt us (j + 1) i) → find_at (is_free spec) j (u ∷ us) ≡ some i
+    miss : (find_at (is_free spec) (j + 1) us ≡ Some i → FreeAt us (j + 1) i) → find_at (is_free spec) j (u ∷ us) ≡ Some i
         → is_free spec j u ≡ false → FreeAt (u ∷ us) j i
     miss f e t =
         let r = f (sym (find-miss (is_free spec) t us) ∙ e) in
         record { k = suc r.k; at = omega (arith, r.at); here = omega (arith, r.here); free = r.free }
 
-module _ {us : Units} (ok : UnitsOk us) (g : Legend) (spec : ℕ) {i : ℕ} (e : find_at (is_free spec) 0 (view_units g us) ≡ some i) where
+module _ {us : Units} (ok : UnitsOk us) (g : Legend) (spec : ℕ) {i : ℕ} (e : find_at (is_free spec) 0 (view_units g us) ≡ Some i) where
   pub free-inside : i < us.len
   free-inside = let r = found-free spec 0 (view_units g us) e in omega (arith, r.at, r.here, units-length ok g)
 
@@ -212,14 +212,14 @@ module _ {b r : Board} {q : Queued} {i : ℕ} (ok : BoardOk b) (here : i < b.uni
   unfolding unit_at occupy
   taken-up g =
       ap (λ o. (value_or (idle_unit 0 0) o).busy)
-      (ap (λ l. nth l i) (e.units g)
+      (ap (λ l. slice_get l i) (e.units g)
       ∙ nth-modify-same i (occupied g) (view_units g b.units)
-      ∙ ap (omap (occupied g)) (nth-get_or (view_units g b.units) (idle_unit 0 0) (let z : i < length (view_units g b.units) = omega (arith, units-length ok.units g) in z)))
+      ∙ ap (option_map (occupied g)) (nth-get_or (view_units g b.units) (idle_unit 0 0) (let z : i < length (view_units g b.units) = omega (arith, units-length ok.units g) in z)))
 
   other-unit : (g : Legend) {j : ℕ} → (j ≡ i → ⊥) → (unit_at (view_units g r.units) j).busy ≡ (unit_at (view_units g b.units) j).busy
   unfolding unit_at
   other-unit g {j} n =
-      ap (λ o. (value_or (idle_unit 0 0) o).busy) (ap (λ l. nth l j) (e.units g) ∙ nth-modify-other (occupied g) (view_units g b.units) n)
+      ap (λ o. (value_or (idle_unit 0 0) o).busy) (ap (λ l. slice_get l j) (e.units g) ∙ nth-modify-other (occupied g) (view_units g b.units) n)
 
   pub places-vacant : Vacant b → Vacant r
   places-vacant v g j t = ⊎_elim same other (true-or-false (eqb j i))

@@ -1,6 +1,5 @@
 -- What the parts of an issue hand back.
-use Rattle.std.specs.Prelude.{ℕ, ◌+◌, ◌≤◌, max, ◌≡◌, ◌⊎◌, List, [], ◌∷◌, ◌++◌, set, replicate}
-use Rattle.std.proofs.Math.Option.{none, some}
+use Rattle.std.specs.Prelude.{ℕ, ◌+◌, ◌≤◌, max, ◌≡◌, ◌⊎◌, List, [], ◌∷◌, ◌++◌, set, replicate, None, Some}
 use Rattle.laws.specs.Lists.{rest, modify, find_at}
 use Rattle.model.specs.Config.{spec_index}
 use Rattle.model.specs.Op.{with_hazard}
@@ -11,11 +10,11 @@ use Rattle.model.specs.Units.{occupy}
 use Rattle.model.specs.Issue.{is_free, taken, waits_on, place}
 use Rattle.config.specs.declared.Machine.{Machine}
 use Rattle.config.specs.View.{view_machine}
-use Rattle.registers.specs.View.{view_claims}
+use Rattle.registers.specs.View.{view_claims, read, written}
 use Rattle.registers.specs.Look.{through}
-use Rattle.flight.specs.declared.Operands.{Operands}
+use Rattle.registers.specs.declared.Operands.{Operands}
 use Rattle.flight.specs.declared.Queued.{Queued}
-use Rattle.flight.specs.View.{Legend, read, written, view_queued, view_queue, entries}
+use Rattle.flight.specs.View.{Legend, view_queued, view_queue, entries}
 use Rattle.timeline.specs.declared.WaitForm.{WaitForm}
 use Rattle.timeline.specs.declared.WaitForm.TheVariants.{StillWrites, AllBusy}
 use Rattle.stalls.specs.declared.Trace.{Trace}
@@ -55,19 +54,19 @@ pub record Learns (b : Board) (x : Operands) (r : Board) : Type 0 where
 -- Somebody in flight writes destination n.
 pub record StillWritten (b : Board) (q : Queued) (f : WaitForm) (n : ℕ) : Type 0 where
   pub form : f ≡ StillWrites
-  pub taken : taken (view_claims b.claims) (written q.operands) ≡ some n
+  pub taken : taken (view_claims b.claims) (written q.operands) ≡ Some n
 
 -- No unit of kind n is free.
 pub record Full (b : Board) (q : Queued) (m : Machine) (f : WaitForm) (n : ℕ) : Type 0 where
   pub form : f ≡ AllBusy
-  pub taken : taken (view_claims b.claims) (written q.operands) ≡ none
+  pub taken : taken (view_claims b.claims) (written q.operands) ≡ None
   pub kind : n ≡ spec_index (view_machine m).specs q.class
-  pub full : (g : Legend) → find_at (is_free n) 0 (view_units g b.units) ≡ none
+  pub full : (g : Legend) → find_at (is_free n) 0 (view_units g b.units) ≡ None
 
 -- Unit i is the lowest free one of the kind.
 pub record Free (b : Board) (q : Queued) (m : Machine) (i : ℕ) : Type 0 where
-  pub taken : taken (view_claims b.claims) (written q.operands) ≡ none
-  pub free : (g : Legend) → find_at (is_free (spec_index (view_machine m).specs q.class)) 0 (view_units g b.units) ≡ some i
+  pub taken : taken (view_claims b.claims) (written q.operands) ≡ None
+  pub free : (g : Legend) → find_at (is_free (spec_index (view_machine m).specs q.class)) 0 (view_units g b.units) ≡ Some i
 
 pub record Chooses (b : Board) (q : Queued) (m : Machine) (r : Way) : Type 0 where
   pub blocked : (f : WaitForm) (n : ℕ) → r ≡ Blocked f n → StillWritten b q f n ⊎ Full b q m f n
@@ -81,7 +80,7 @@ trace_by f q n = record { form = f; mine = q.place; other = 80; number = n }
 -- The front stays, with a hazard, and the wait is listed.
 abbrev pub blocked_by : WaitForm → Wait → State → State
 blocked_by f t s =
-    with_queue (modify 0 (with_hazard (some (form_kind f))) s.queue) (with_log (stall_all (t ∷ []) s.log) s)
+    with_queue (modify 0 (with_hazard (Some (form_kind f))) s.queue) (with_log (stall_all (t ∷ []) s.log) s)
 
 pub record Blocks (b : Board) (f : WaitForm) (n : ℕ) (r : Board) : Type 0 where
   pub is : (q : Queued) → Fronts q b → (x : Frame)

@@ -19,7 +19,6 @@ ghost use Rattle.issuing.specs.Steps.{Fronts, numbers, Learns, Chooses, Blocks, 
 use board::Sequencer;
 use config::Machine;
 use flight::Queued;
-use registers::MaybeIndex;
 use stalls::Trace;
 use timeline::WaitForm;
 use units::is_system;
@@ -33,17 +32,13 @@ pub enum Way {
 
 // The front is looked at: its names are known from now on.
 // model: Issue.learn
-fn looked(board: Sequencer, front: Queued) -> Sequencer
+fn looked(mut board: Sequencer, front: Queued) -> Sequencer
     requires claims_ok { ClaimsOk board.claims }
     requires queued_ok { QueuedOk front }
     ensures { (us : Units) → BoardOk (board_of board us) → Learns (board_of board us) front.operands (board_of result us) }
 {
-    let mut b = board;
-    let claims = b.claims;
-    let operands = front.operands;
-    let c = claims.padded(operands.through());
-    b.claims = c;
-    b
+    board.claims.pad(front.operands.through());
+    board
 }
 
 // WAW, then a free unit.
@@ -62,26 +57,19 @@ fn way_looked(
     requires machine_ok { MachineOk machine }
     ensures { Chooses (board_of board (units_of us.now ss.now n)) front machine result }
 {
-    let claims = board.claims;
-    let operands = front.operands;
-    let class = front.class;
-    let destinations = operands.destinations;
-    let taken = claims.taken(destinations, operands.destinations_len);
-    if let MaybeIndex::Some(r) = taken {
-        return Way::Blocked(WaitForm::StillWrites, r);
+    if let Some(register) = board.claims.taken(front.operands.writes()) {
+        return Way::Blocked(WaitForm::StillWrites, register);
     }
-    let spec = machine.spec_index(class) as u8;
-    let at = stepping::free_unit(us, ss, n, spec);
-    if at < 64 {
-        Way::Into(at)
-    } else {
-        Way::Blocked(WaitForm::AllBusy, spec)
+    let spec = machine.spec_index(front.class) as u8;
+    match stepping::free_unit(us, ss, n, spec) {
+        Some(at) => Way::Into(at),
+        None => Way::Blocked(WaitForm::AllBusy, spec),
     }
 }
 
 // model: Issue.place
 fn placed(
-    board: Sequencer,
+    mut board: Sequencer,
     us: &mut [[u8; 40]],
     ss: &mut [u64],
     n: usize,
@@ -96,50 +84,32 @@ fn placed(
     ensures is { Places (board_of board (units_of us.old ss.old n)) front at (board_of result (units_of us.new ss.new n)) }
     ensures size { Sized us.new ss.new }
 {
-    let mut b = board;
-    let claims = b.claims;
-    let queue = b.queue;
-    let operands = front.operands;
-    let class = front.class;
-    let sources = operands.sources;
-    let destinations = operands.destinations;
-    let pending = claims.waits_on(sources, operands.sources_len);
+    let pending = board.claims.waits_on(front.operands.reads());
     stepping::occupy(us, ss, n, at, front, pending);
-    let c = claims.claim_all(destinations, operands.destinations_len, at as u8);
-    let q = queue.pop_front();
-    let branch = b.marks.branch;
-    let system = b.marks.system;
-    b.claims = c;
-    b.queue = q;
-    b.marks.branch = if front.branch { true } else { branch };
-    b.marks.system = if is_system(class) { true } else { system };
-    b
+    board.claims.claim_all(front.operands.writes(), at as u8);
+    board.queue.pop_front();
+    board.marks.branch = front.branch || board.marks.branch;
+    board.marks.system = is_system(front.class) || board.marks.system;
+    board
 }
 
 // model: Issue.block_issue
-fn blocked(board: Sequencer, form: WaitForm, number: u8) -> Sequencer
+fn blocked(mut board: Sequencer, form: WaitForm, number: u8) -> Sequencer
     requires queue_ok { QueueOk board.queue }
     requires log_ok { LogOk board.log }
     requires len_bound { board.log.traces.len < 130 }
     requires number_lt_len { names_register form ≡ true → number < board.claims.len }
     ensures { (us : Units) → BoardOk (board_of board us) → Blocks (board_of board us) form number (board_of result us) }
 {
-    let mut b = board;
-    let queue = b.queue;
-    let log = b.log;
-    let front = queue.items[0];
-    let kind = stalls::kind_of(form);
-    let trace = Trace {
+    let mine = board.queue.items[0].place;
+    board.queue.block_front(stalls::kind_of(form));
+    board.log.stall(Trace {
         form,
-        mine: front.place,
+        mine,
         other: 80,
         number,
-    };
-    let q = queue.block_front(kind);
-    let l = log.stall(trace);
-    b.queue = q;
-    b.log = l;
-    b
+    });
+    board
 }
 
 // model: Issue.issue_looked
@@ -160,8 +130,7 @@ fn issue_looked(
     ensures size { Sized us.new ss.new }
 {
     let b = looked(board, front);
-    let way = way_looked(b, us, ss, n, front, machine);
-    match way {
+    match way_looked(b, us, ss, n, front, machine) {
         Way::Blocked(form, number) => blocked(b, form, number),
         Way::Into(at) => placed(b, us, ss, n, front, at),
     }
@@ -182,8 +151,7 @@ pub fn issue(
     ensures is { Issues (board_of board (units_of us.old ss.old n)) machine (board_of result (units_of us.new ss.new n)) }
     ensures size { Sized us.new ss.new }
 {
-    let queue = board.queue;
-    if queue.len == 0 {
+    if board.queue.len == 0 {
         return board;
     }
     if board.marks.branch {
@@ -192,5 +160,5 @@ pub fn issue(
     if board.marks.system {
         return blocked(board, WaitForm::BehindSystem, 0);
     }
-    issue_looked(board, us, ss, n, queue.items[0], machine)
+    issue_looked(board, us, ss, n, board.queue.items[0], machine)
 }

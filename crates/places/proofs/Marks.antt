@@ -9,33 +9,32 @@ use lib.Dec.{eqb, ltb}
 use lib.ListN.{length, get_or, set, take, replicate, get_or-replicate, length-replicate, length-set}
 use lib.Seq.{get_or-set_same, get_or-set_other, take_all}
 use borrow.Author.Tests.{eqb-true, eqb-false}
-use Rattle.laws.specs.Lists.{any, count, elem}
+use Rattle.laws.specs.Lists.{count, elem}
+use Rattle.std.specs.List.{list_any}
 use Rattle.laws.proofs.Tests.{cond_yes, cond-eq, cond-ne, cond-lt, cond-ge, lt-or-ge, true-or-false, or-next, or-yes-second}
-use Rattle.laws.proofs.Slices.{Seen, seen-take, take-map, view-length, view-next}
+use Rattle.laws.proofs.Slices.{Seen, seen-get_or, seen-take, take-map, view-length, view-next}
 use Rattle.laws.proofs.Search.{count_most}
 use Rattle.flight.specs.declared.Queued.{Queued}
 use Rattle.flight.specs.declared.Queue.{Queue}
 use Rattle.flight.specs.View.{entries, QueueOk}
+use Rattle.flight.proofs.Entries.{entries-length, entries_next, entry-ok}
 use Rattle.places.specs.declared.Places.{Places}
 use Rattle.places.specs.Places.{queue_places, Marked, Free}
 
 -- ── Marks ───────────────────────────────────────────────────────────────────
 
-any_append : {A : Type 0} (p : A → Bool) (s t : List A) → any p (s ++ t) ≡ (any p s || any p t)
-unfolding any
+any_append : {A : Type 0} (p : A → Bool) (s t : List A) → list_any p (s ++ t) ≡ (list_any p s || list_any p t)
 any_append p [] t = refl
-any_append p (x ∷ s) t = ap (λ b. p x || b) (any_append p s t) ∙ or_assoc (p x) (any p s) (any p t)
+any_append p (x ∷ s) t = ap (λ b. p x || b) (any_append p s t) ∙ or_assoc (p x) (list_any p s) (list_any p t)
   where
     or_assoc : (a b c : Bool) → (a || (b || c)) ≡ ((a || b) || c)
     or_assoc true b c = refl
     or_assoc false b c = refl
 
 elem-last : (q p : ℕ) (l : List ℕ) → elem q (l ++ p ∷ []) ≡ (elem q l || (eqb q p || false))
-unfolding any
 elem-last q p l = any_append (eqb q) l (p ∷ [])
 
 pub marked-none : {m : Places} → m.used ≡ replicate 81 false → Marked [] m
-unfolding any
 marked-none e =
     record {
       size = ap length e ∙ length-replicate 81 false;
@@ -97,6 +96,20 @@ queue_places-are q = sym (take-map (λ (x : Queued). x.place) q.len q.items)
 pub queue_places-next : {q : Queue} → QueueOk q → (d : Queued) {i : ℕ} → i < q.len → Seen (queue_places q) q.len i (get_or q.items i d).place
 queue_places-next {q} ok d h = rw (queue_places-are q) (view-next (λ (x : Queued). x.place) q.items d (omega (arith, ok.few, ok.size)) h)
 
+-- The entries as a slice.
+module _ {q : Queue} (ok : QueueOk q) (d : Queued) {s : List Queued} (e : s ≡ entries q) {i : ℕ} (h : i < length s) where
+  within : i < q.len
+  within = omega (arith, h, ap length e, entries-length ok)
+
+  the_entry : get_or s i d ≡ get_or q.items i d
+  the_entry = ap (λ l. get_or l i d) e ∙ seen-get_or (entries_next ok d within) d
+
+  pub entry_place : (get_or s i d).place ≤ 80
+  entry_place = rw the_entry (entry-ok ok d {i = i} (omega (arith, within, ok.few))).place
+
+  pub entry_seen : Seen (queue_places q) q.len i (get_or s i d).place
+  entry_seen = rw the_entry (queue_places-next ok d within)
+
 pub queue_places-length : {q : Queue} → QueueOk q → length (queue_places q) ≡ q.len
 queue_places-length {q} ok = ap length (queue_places-are q) ∙ view-length (λ (x : Queued). x.place) q.items (omega (arith, ok.few, ok.size))
 
@@ -119,7 +132,7 @@ below_next n (x ∷ xs) = omega (arith, one, below_next n xs)
         (lt-or-ge x n)
 
 taken-counts : (n : ℕ) (l : List ℕ) → elem n l ≡ true → 1 ≤ count (eqb n) l
-unfolding any count
+unfolding count
 taken-counts n [] e = absurd (let z : ◌≡◌ {A = ℕ} 0 1 = cc in omega arith)
 taken-counts n (x ∷ xs) e = ⊎_elim (λ t. omega (arith, cond_yes {A = ℕ} 1 0 t)) (λ t. omega (arith, taken-counts n xs (sym (or-next (elem n xs) t) ∙ e))) (true-or-false (eqb n x))
 

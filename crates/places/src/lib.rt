@@ -22,45 +22,34 @@ impl Places {
         ensures { Marked (places (units_of us.now ss.now n)) result }
     {
         let mut places = Places { used: [false; 81] };
-        let mut i: usize = 0;
-        while i < n {
+        for i in 0..n {
             let u = slots::unit_at(us, ss, i);
-            let at = u.place as usize;
-            places.used[at] = true;
-            i += 1;
+            places.used[u.place as usize] = true;
         }
         places
     }
 
     // And those of the queue.
-    fn and_queue(self, queue: Queue) -> Places
-        requires queue_ok { QueueOk queue }
+    fn and_queue(mut self, queue: &Queue) -> Places
+        requires queue_ok { QueueOk queue.now }
         requires used_len { length self.used ≡ 81 }
-        ensures { (l : List ℕ) → Marked l self → Marked (l ++ queue_places queue) result }
+        ensures { (l : List ℕ) → Marked l self → Marked (l ++ queue_places queue.now) result }
     {
-        let mut places = self;
-        let n = queue.len;
-        let mut i: usize = 0;
-        while i < n {
-            let x = queue.items[i];
-            let at = x.place as usize;
-            places.used[at] = true;
-            i += 1;
+        for op in queue.as_slice() {
+            self.used[op.place as usize] = true;
         }
-        places
+        self
     }
 
     // The first that is free: at most 78 operations are in flight, and one has just left.
-    fn first_free(self) -> usize
-        requires { length self.used ≡ 81 }
-        ensures { (l : List ℕ) → Marked l self → length l ≤ 79 → Free l result }
+    fn first_free(&self) -> usize
+        requires { length self.now.used ≡ 81 }
+        ensures { (l : List ℕ) → Marked l self.now → length l ≤ 79 → Free l result }
     {
-        let mut i: usize = 0;
-        while i < 79 {
+        for i in 0..79 {
             if !self.used[i] {
                 return i;
             }
-            i += 1;
         }
         79
     }
@@ -74,8 +63,7 @@ pub fn free_place(us: &[[u8; 40]], ss: &[u64], n: usize, queue: Queue, gone: u8)
     requires gone_bound { gone ≤ 80 }
     ensures { Free ((places (units_of us.now ss.now n) ++ queue_places queue) ++ gone ∷ []) result }
 {
-    let mut places = Places::of_units(us, ss, n).and_queue(queue);
-    let at = gone as usize;
-    places.used[at] = true;
+    let mut places = Places::of_units(us, ss, n).and_queue(&queue);
+    places.used[gone as usize] = true;
     places.first_free()
 }

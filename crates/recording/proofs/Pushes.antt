@@ -1,11 +1,7 @@
 -- The cells of a cycle pushed one by one: what is left to push gives what all of them give.
-use Prim.Native.Nat.{ℕ, ◌+◌, ◌≤◌}
-use mathlib.Core.Path.{◌≡◌, refl, sym, ap, ap₂, ◌∙◌}
-use mathlib.Core.Bool.{true, false}
-use mathlib.Core.List.{List, [], ◌∷◌, ◌++◌, map}
-use lib.ListN.{length, drop}
+use Rattle.std.proofs.Common.{ℕ, ◌+◌, ◌≤◌, ◌<◌, ◌≡◌, refl, sym, ap, ap₂, ◌∙◌, true, false, List, [], ◌∷◌, ◌++◌, map, length, get_or, drop, arith}
 use Rattle.laws.specs.Lists.{keep}
-use Rattle.laws.proofs.Slices.{Seen, slice-end}
+use Rattle.laws.proofs.Slices.{Seen, seen-get_or, slice-end}
 use Rattle.laws.proofs.Kept.{keep-hit, keep-miss}
 use Rattle.model.specs.Op.{Op}
 use Rattle.model.specs.Units.{is_busy}
@@ -15,8 +11,10 @@ use Rattle.timeline.specs.declared.RowTexts.{RowTexts}
 use Rattle.timeline.specs.declared.Window.{Window}
 use Rattle.timeline.specs.View.{view_rows, Pushed}
 use Rattle.tracks.specs.View.{tracks_of, TracksLent}
+use Rattle.flight.specs.declared.Queued.{Queued}
 use Rattle.flight.specs.declared.Queue.{Queue}
-use Rattle.flight.specs.View.{Legend, view_queued, view_queue}
+use Rattle.flight.specs.View.{Legend, view_queued, view_queue, entries, QueueOk}
+use Rattle.flight.proofs.Entries.{entries-length, entries_next, queue-next}
 use Rattle.units.specs.declared.Unit.{Unit as Slot}
 use Rattle.units.specs.View.{view_unit}
 use Rattle.bank.specs.declared.Units.{Units}
@@ -102,9 +100,16 @@ pub queue-more : (cell : Op → ℕ × ℕ) (q : Queue) (g : Legend) {n i : ℕ}
     → queue-left cell q g i ≡ p ∷ queue-left cell q g (i + 1)
 queue-more cell q g {i = i} a e = ap (map cell) a.is ∙ ap (λ c. c ∷ queue-left cell q g (i + 1)) e
 
-pub queue-done : (cell : Op → ℕ × ℕ) (q : Queue) {i : ℕ} → q.len ≤ i → (g : Legend) → queue-left cell q g i ≡ []
-unfolding view_queue
-queue-done cell q h g = ap (map cell) (slice-end (map (view_queued g) q.items) h)
+-- The queue's entries as a slice.
+module _ {q : Queue} (ok : QueueOk q) {s : List Queued} (e : s ≡ entries q) {i : ℕ} where
+  pub queue_seen : (d : Queued) → i < length s → (g : Legend) → Seen (view_queue g q) q.len i (view_queued g (get_or s i d))
+  queue_seen d h g =
+      let within : i < q.len = omega (arith, h, ap length e, entries-length ok) in
+      rw (ap (λ l. get_or l i d) e ∙ seen-get_or (entries_next ok d within) d) (queue-next ok g d within)
+
+  pub queue-done : (cell : Op → ℕ × ℕ) → length s ≤ i → (g : Legend) → queue-left cell q g i ≡ []
+  unfolding view_queue
+  queue-done cell h g = ap (map cell) (slice-end (map (view_queued g) q.items) (omega (arith, h, ap length e, entries-length ok)))
 
 abbrev pub units-left : Units → Legend → ℕ → List (ℕ × ℕ)
 units-left us g i = map unit_cell (keep is_busy (drop i (view_units g us)))

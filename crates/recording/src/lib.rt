@@ -32,12 +32,8 @@ pub fn push_flushed(
     ensures memory { (g : Legend) → Written window (map flushed_cell (view_queue g queue)) (tracks_of ts.old fs.old) cells.old cells.new }
     ensures lent { TracksLent ts.new fs.new }
 {
-    let n = queue.len;
-    let mut i: usize = 0;
-    while i < n {
-        let q = queue.items[i];
+    for q in queue.as_slice() {
         tracks::push(ts, fs, window, q.seq, 68, cells);
-        i += 1;
     }
 }
 
@@ -58,12 +54,8 @@ pub fn push_queue(
     ensures memory { (g : Legend) → Written window (map queue_cell (view_queue g queue)) (tracks_of ts.old fs.old) cells.old cells.new }
     ensures lent { TracksLent ts.new fs.new }
 {
-    let n = queue.len;
-    let mut i: usize = 0;
-    while i < n {
-        let q = queue.items[i];
+    for q in queue.as_slice() {
         tracks::push(ts, fs, window, q.seq, q.cell(), cells);
-        i += 1;
     }
 }
 
@@ -86,12 +78,10 @@ pub fn push_units(
     ensures memory { (g : Legend) → Written window (map unit_cell (keep is_busy (view_units g (units_of us.now ss.now n)))) (tracks_of ts.old fs.old) cells.old cells.new }
     ensures lent { TracksLent ts.new fs.new }
 {
-    let mut i: usize = 0;
-    while i < n {
-        let x = slots::unit_at(us, ss, i);
-        i += 1;
-        if x.busy {
-            tracks::push(ts, fs, window, x.seq, x.cell(), cells);
+    for i in 0..n {
+        let u = slots::unit_at(us, ss, i);
+        if u.busy {
+            tracks::push(ts, fs, window, u.seq, u.cell(), cells);
         }
     }
 }

@@ -1,4 +1,6 @@
 -- A unit made of its own bytes and number is that unit.
+use Rattle.capability.specs.declared.PipelineHazardKind.{PipelineHazardKind}
+use Rattle.std.specs.Prelude.{None, Option, Some}
 use Prim.Native.Nat.{ℕ, zero, suc}
 use mathlib.Core.Path.{◌≡◌, refl, ap}
 use mathlib.Core.Bool.{Bool, true, false}
@@ -8,22 +10,12 @@ use lib.ListN.{length, get_or}
 use Rattle.laws.specs.Optional.{value_or}
 use Rattle.capability.specs.declared.PipelineInstructionClass.{PipelineInstructionClass}
 use Rattle.capability.specs.declared.PipelineInstructionClass.TheVariants.{Unknown}
-use Rattle.capability.specs.declared.PipelineHazardKind.TheVariants.{
-  ReadAfterWrite,
-  LoadUse,
-  BranchFlush,
-  FunctionalUnitBusy,
-  MemoryLatency,
-  WriteAfterWrite,
-  WriteAfterRead,
-}
+use Rattle.capability.specs.declared.PipelineHazardKind.TheVariants.{ReadAfterWrite, LoadUse, BranchFlush, FunctionalUnitBusy, MemoryLatency, WriteAfterWrite, WriteAfterRead}
 use Rattle.capability.specs.declared.Phase.{Phase}
 use Rattle.capability.specs.declared.Phase.TheVariants.{Wait, Read, Execute, Write}
 use Rattle.capability.specs.Numbers.{class_number, hazard_number, phase_number}
 use Rattle.capability.proofs.Numbered.{classes-numbered}
 use Rattle.registers.specs.declared.Owed.{Owed}
-use Rattle.flight.specs.declared.MaybeHazard.{MaybeHazard}
-use Rattle.flight.specs.declared.MaybeHazard.TheVariants.{Some, Nothing}
 use Rattle.units.specs.declared.Unit.{Unit as Slot}
 use Rattle.slots.specs.Bytes.{flag_byte, flag_of, phase_of, hazard_byte, hazard_of, class_at, owed_of, operands_of, waits_of, progress_of, unit_of, row, unit_bytes}
 
@@ -41,7 +33,7 @@ phase-back Read = refl
 phase-back Execute = refl
 phase-back Write = refl
 
-hazard-back : (h : MaybeHazard) → hazard_of (hazard_byte h) ≡ h
+hazard-back : (h : Option PipelineHazardKind) → hazard_of (hazard_byte h) ≡ h
 unfolding hazard_of hazard_byte hazard_number
 hazard-back (Some ReadAfterWrite) = refl
 hazard-back (Some LoadUse) = refl
@@ -50,7 +42,7 @@ hazard-back (Some FunctionalUnitBusy) = refl
 hazard-back (Some MemoryLatency) = refl
 hazard-back (Some WriteAfterWrite) = refl
 hazard-back (Some WriteAfterRead) = refl
-hazard-back Nothing = refl
+hazard-back None = refl
 
 class_back : (c : PipelineInstructionClass) → class_at (class_number c) ≡ c
 unfolding class_at
@@ -80,7 +72,7 @@ pub record Rowed (u : Slot) : Type 0 where
 
 module _ (u : Slot) (k : Rowed u) where
   -- u with other arrays and other cases.
-  abbrev made : List ℕ → List ℕ → List Owed → PipelineInstructionClass → Bool → Bool → Phase → MaybeHazard → Slot
+  abbrev made : List ℕ → List ℕ → List Owed → PipelineInstructionClass → Bool → Bool → Phase → Option PipelineHazardKind → Slot
   made s d w c r b p h =
       record {
         seq = u.seq;
@@ -101,7 +93,7 @@ module _ (u : Slot) (k : Rowed u) where
         progress = record { phase = p; hazard = h; cycles_left = u.progress.cycles_left };
       }
 
-  made-same : {s s' d d' : List ℕ} {w w' : List Owed} {c c' : PipelineInstructionClass} {r r' b b' : Bool} {p p' : Phase} {h h' : MaybeHazard}
+  made-same : {s s' d d' : List ℕ} {w w' : List Owed} {c c' : PipelineInstructionClass} {r r' b b' : Bool} {p p' : Phase} {h h' : Option PipelineHazardKind}
       → s ≡ s' → d ≡ d' → w ≡ w' → c ≡ c' → r ≡ r' → b ≡ b' → p ≡ p' → h ≡ h' → made s d w c r b p h ≡ made s' d' w' c' r' b' p' h'
   made-same es ed ew ec er eb ep eh = cc
 

@@ -1,4 +1,4 @@
-pub mod Cases
 pub mod Back
 pub mod Rows
+pub mod Each
 pub mod Loops

@@ -11,7 +11,8 @@ use Rattle.flight.specs.View.{Legend}
 use Rattle.units.specs.declared.Unit.{Unit as Slot}
 use Rattle.units.specs.View.{view_unit, UnitOk, UnitIs}
 use Rattle.bank.specs.View.{view_units, places}
-use Rattle.bank.proofs.Steps.{units-so, unit_ok, units-next, places-next, units-set, place_kept, Each, each_first, each_read, each_next, each_last}
+use Rattle.bank.proofs.Steps.{units-so, unit_ok, units-next, places-next, units-set, place_kept}
+use Rattle.slots.proofs.Each.{Each, each_first, each_read, each_next, each_last}
 use Rattle.slots.specs.View.{items_of, units_of, Sized, Lent, At, Put, LentAre}
 
 -- The units after a change, said otherwise.

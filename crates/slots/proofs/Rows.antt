@@ -11,7 +11,7 @@ use Rattle.laws.proofs.Copy.{Copied, copied-first, copied_next, copied-front}
 use Rattle.units.specs.declared.Unit.{Unit as Slot}
 use Rattle.bank.specs.declared.Units.{Units}
 use Rattle.slots.specs.Bytes.{unit_of, unit_bytes}
-use Rattle.slots.specs.View.{items_of, units_of, Sized, At, Put, Holds}
+use Rattle.slots.specs.View.{items_of, Sized, At, Put, Holds}
 use Rattle.slots.proofs.Back.{Rowed, unit-round}
 
 items-length : (us : List (List ℕ)) (ss : List ℕ) → length us ≡ length ss → length (items_of us ss) ≡ length us
@@ -58,15 +58,15 @@ module _ {us : List (List ℕ)} {ss : List ℕ} (s : Sized us ss) where
 copied-whole : {A : Type 0} {s out₀ out : List A} {i : ℕ} → length out₀ ≡ 64 → Copied s out₀ out 64 0 i → 64 ≤ i → out ≡ s
 copied-whole {s = s} {out₀ = out₀} e c h = copied-front c h ∙ ap (λ t. s ++ t) (ap (λ k. drop k out₀) (sym e) ∙ drop-length out₀) ∙ append-nil s
 
+pub gathered_first : {us : List (List ℕ)} {ss : List ℕ} → Sized us ss → {out : List Slot} → length out ≡ 64 → Copied (items_of us ss) out out 64 0 0
+gathered_first s e = copied-first (items-size s) (omega (arith, e))
+
 module _ {us : List (List ℕ)} {ss : List ℕ} (s : Sized us ss) {out₀ out : List Slot} {i : ℕ} where
   pub gathered_next : {x : Slot} → Copied (items_of us ss) out₀ out 64 0 i → i < 64 → At us ss i x
       → Copied (items_of us ss) out₀ (set out i x) 64 0 (i + 1)
   gathered_next {x} c h e =
       let size = items-size s in
       copied_next c (rw (sym (e x), size) at (list-next (items_of us ss) x {i = i} (omega (arith, size)))) (sym (zero-add i)) refl
-
-  pub gathered-last : (n : ℕ) → length out₀ ≡ 64 → Copied (items_of us ss) out₀ out 64 0 i → 64 ≤ i → record { items = out; len = n } ≡ units_of us ss n
-  gathered-last n e c h = ap (λ l. record { items = l; len = n }) (copied-whole e c h)
 
 -- The first i rows stand for the first i of the units.
 pub record Spread (units : Units) (us₀ : List (List ℕ)) (ss₀ : List ℕ) (us : List (List ℕ)) (ss : List ℕ) (i : ℕ) : Type 0 where
@@ -75,12 +75,12 @@ pub record Spread (units : Units) (us₀ : List (List ℕ)) (ss₀ : List ℕ) (
   pub size : Sized us ss
   pub is : Copied units.items (items_of us₀ ss₀) (items_of us ss) 64 0 i
 
-pub spread-first : {units : Units} {us : List (List ℕ)} {ss : List ℕ} → length units.items ≡ 64 → Sized us ss → Spread units us ss us ss 0
-spread-first h s = record { all = h; start = s; size = s; is = copied-first h (omega (arith, items-size s)) }
+pub spread_first : {units : Units} {us : List (List ℕ)} {ss : List ℕ} → length units.items ≡ 64 → Sized us ss → Spread units us ss us ss 0
+spread_first h s = record { all = h; start = s; size = s; is = copied-first h (omega (arith, items-size s)) }
 
 module _ {units : Units} {us₀ us : List (List ℕ)} {ss₀ ss : List ℕ} {i : ℕ} (e : Spread units us₀ ss₀ us ss i) where
-  pub spread-next : (d : Slot) {us' : List (List ℕ)} {ss' : List ℕ} → i < 64 → Put us ss i (get_or units.items i d) us' ss' → Spread units us₀ ss₀ us' ss' (i + 1)
-  spread-next d h p =
+  pub spread_next : (d : Slot) {us' : List (List ℕ)} {ss' : List ℕ} → i < 64 → Put us ss i (get_or units.items i d) us' ss' → Spread units us₀ ss₀ us' ss' (i + 1)
+  spread_next d h p =
       record {
         all = e.all;
         start = e.start;
@@ -88,5 +88,5 @@ module _ {units : Units} {us₀ us : List (List ℕ)} {ss₀ ss : List ℕ} {i :
         is = copied_next e.is (rw e.all at (list-next units.items d {i = i} (omega (arith, e.all)))) (sym (zero-add i)) p.is;
       }
 
-  pub spread-last : 64 ≤ i → Holds us ss units
-  spread-last h = record { size = e.size; is = ap (λ l. record { items = l; len = units.len }) (copied-whole (items-size e.start) e.is h) }
+  pub spread_last : 64 ≤ i → Holds us ss units
+  spread_last h = record { size = e.size; is = ap (λ l. record { items = l; len = units.len }) (copied-whole (items-size e.start) e.is h) }

@@ -1,26 +1,17 @@
 -- A unit as 40 bytes, its number beside them.
-use Rattle.std.specs.Prelude.{ℕ, ◌+◌, Bool, cond, not, List, [], ◌∷◌, eqb, get_or}
+use Rattle.capability.specs.declared.PipelineHazardKind.{PipelineHazardKind}
+use Rattle.std.specs.Prelude.{None, Option, Some, ℕ, ◌+◌, Bool, cond, not, List, [], ◌∷◌, eqb, get_or}
 use Rattle.laws.specs.Optional.{value_or}
 use Rattle.capability.specs.declared.PipelineInstructionClass.{PipelineInstructionClass}
 use Rattle.capability.specs.declared.PipelineInstructionClass.TheVariants.{Unknown}
-use Rattle.capability.specs.declared.PipelineHazardKind.TheVariants.{
-  ReadAfterWrite,
-  LoadUse,
-  BranchFlush,
-  FunctionalUnitBusy,
-  MemoryLatency,
-  WriteAfterWrite,
-  WriteAfterRead,
-}
+use Rattle.capability.specs.declared.PipelineHazardKind.TheVariants.{ReadAfterWrite, LoadUse, BranchFlush, FunctionalUnitBusy, MemoryLatency, WriteAfterWrite, WriteAfterRead}
 use Rattle.capability.specs.declared.Phase.{Phase}
 use Rattle.capability.specs.declared.Phase.TheVariants.{Wait, Read, Execute, Write}
 use Rattle.capability.specs.Numbers.{class_number, hazard_number, phase_number}
 use Rattle.capability.specs.Cases.{class_of}
 use Rattle.registers.specs.declared.Owed.{Owed}
 use Rattle.registers.specs.declared.Waits.{Waits}
-use Rattle.flight.specs.declared.Operands.{Operands}
-use Rattle.flight.specs.declared.MaybeHazard.{MaybeHazard}
-use Rattle.flight.specs.declared.MaybeHazard.TheVariants.{Some, Nothing}
+use Rattle.registers.specs.declared.Operands.{Operands}
 use Rattle.units.specs.declared.Progress.{Progress}
 use Rattle.units.specs.declared.Unit.{Unit as Slot}
 
@@ -35,17 +26,17 @@ flag_of b = not (eqb b 0)
 unfoldable pub phase_of : ℕ → Phase
 phase_of b = cond (eqb b 0) Wait (cond (eqb b 1) Read (cond (eqb b 2) Execute Write))
 
-unfoldable pub hazard_byte : MaybeHazard → ℕ
+unfoldable pub hazard_byte : Option PipelineHazardKind → ℕ
 hazard_byte (Some h) = hazard_number h
-hazard_byte Nothing = 255
+hazard_byte None = 255
 
-unfoldable pub hazard_of : ℕ → MaybeHazard
+unfoldable pub hazard_of : ℕ → Option PipelineHazardKind
 hazard_of b =
     cond (eqb b 0) (Some ReadAfterWrite)
     (cond (eqb b 1) (Some LoadUse)
     (cond (eqb b 2) (Some BranchFlush)
     (cond (eqb b 3) (Some FunctionalUnitBusy)
-    (cond (eqb b 4) (Some MemoryLatency) (cond (eqb b 5) (Some WriteAfterWrite) (cond (eqb b 6) (Some WriteAfterRead) Nothing))))))
+    (cond (eqb b 4) (Some MemoryLatency) (cond (eqb b 5) (Some WriteAfterWrite) (cond (eqb b 6) (Some WriteAfterRead) None))))))
 
 -- A byte that no class has counts as Unknown.
 unfoldable pub class_at : ℕ → PipelineInstructionClass

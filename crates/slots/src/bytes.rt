@@ -4,17 +4,19 @@ ghost use Rattle.std.specs.Prelude.{◌≡◌};
 ghost use Rattle.slots.specs.Bytes.{flag_byte, phase_of, hazard_byte, hazard_of, class_at, waits_of, unit_of, row, unit_bytes};
 
 use capability::{Phase, PipelineHazardKind, PipelineInstructionClass};
-use flight::{MaybeHazard, Operands};
+use flight::Operands;
 use registers::{Owed, Waits};
 use units::{Progress, Unit};
 
+#[tactic(auto, unfolding(crate::specs::Bytes::flag_byte))]
 fn flag(b: bool) -> u8
     ensures { result ≡ flag_byte b }
 {
-    if b { 1 } else { 0 }
+    u8::from(b)
 }
 
 // The way back from Phase::number.
+#[tactic(auto, unfolding(crate::specs::Bytes::phase_of))]
 fn phase_of(b: u8) -> Phase
     ensures { result ≡ phase_of b }
 {
@@ -27,31 +29,31 @@ fn phase_of(b: u8) -> Phase
 }
 
 // A hazard's number; 255 for none.
-fn hazard_byte(hazard: MaybeHazard) -> u8
+#[tactic(auto, unfolding(crate::specs::Bytes::hazard_byte))]
+fn hazard_byte(hazard: Option<PipelineHazardKind>) -> u8
     ensures { result ≡ hazard_byte hazard }
 {
-    match hazard {
-        MaybeHazard::Some(kind) => kind.number(),
-        MaybeHazard::Nothing => 255,
-    }
+    hazard.map_or(255, |kind| u8::from(kind))
 }
 
-fn hazard_of(b: u8) -> MaybeHazard
+#[tactic(auto, unfolding(crate::specs::Bytes::hazard_of))]
+fn hazard_of(b: u8) -> Option<PipelineHazardKind>
     ensures { result ≡ hazard_of b }
 {
     match b {
-        0 => MaybeHazard::Some(PipelineHazardKind::ReadAfterWrite),
-        1 => MaybeHazard::Some(PipelineHazardKind::LoadUse),
-        2 => MaybeHazard::Some(PipelineHazardKind::BranchFlush),
-        3 => MaybeHazard::Some(PipelineHazardKind::FunctionalUnitBusy),
-        4 => MaybeHazard::Some(PipelineHazardKind::MemoryLatency),
-        5 => MaybeHazard::Some(PipelineHazardKind::WriteAfterWrite),
-        6 => MaybeHazard::Some(PipelineHazardKind::WriteAfterRead),
-        _ => MaybeHazard::Nothing,
+        0 => Some(PipelineHazardKind::ReadAfterWrite),
+        1 => Some(PipelineHazardKind::LoadUse),
+        2 => Some(PipelineHazardKind::BranchFlush),
+        3 => Some(PipelineHazardKind::FunctionalUnitBusy),
+        4 => Some(PipelineHazardKind::MemoryLatency),
+        5 => Some(PipelineHazardKind::WriteAfterWrite),
+        6 => Some(PipelineHazardKind::WriteAfterRead),
+        _ => None,
     }
 }
 
 // The class with a number; Unknown where it has none. By a match: this is done for each unit in each cycle, and a table is read from memory.
+#[tactic(auto, unfolding(crate::specs::Bytes::class_at, capability::specs::Cases::class_of))]
 fn class_at(b: u8) -> PipelineInstructionClass
     ensures { result ≡ class_at b }
 {
@@ -69,80 +71,78 @@ fn class_at(b: u8) -> PipelineInstructionClass
     }
 }
 
+#[tactic(auto, unfolding(crate::specs::Bytes::waits_of))]
 fn waits_of(b: [u8; 40]) -> Waits
     ensures { result ≡ waits_of b }
 {
-    let w0 = Owed {
-        register: b[24],
-        unit: b[32],
-    };
-    let w1 = Owed {
-        register: b[25],
-        unit: b[33],
-    };
-    let w2 = Owed {
-        register: b[26],
-        unit: b[34],
-    };
-    let w3 = Owed {
-        register: b[27],
-        unit: b[35],
-    };
-    let w4 = Owed {
-        register: b[28],
-        unit: b[36],
-    };
-    let w5 = Owed {
-        register: b[29],
-        unit: b[37],
-    };
-    let w6 = Owed {
-        register: b[30],
-        unit: b[38],
-    };
-    let w7 = Owed {
-        register: b[31],
-        unit: b[39],
-    };
     Waits {
-        items: [w0, w1, w2, w3, w4, w5, w6, w7],
+        items: [
+            Owed {
+                register: b[24],
+                unit: b[32],
+            },
+            Owed {
+                register: b[25],
+                unit: b[33],
+            },
+            Owed {
+                register: b[26],
+                unit: b[34],
+            },
+            Owed {
+                register: b[27],
+                unit: b[35],
+            },
+            Owed {
+                register: b[28],
+                unit: b[36],
+            },
+            Owed {
+                register: b[29],
+                unit: b[37],
+            },
+            Owed {
+                register: b[30],
+                unit: b[38],
+            },
+            Owed {
+                register: b[31],
+                unit: b[39],
+            },
+        ],
         len: b[4],
     }
 }
 
+#[tactic(auto, unfolding(crate::specs::Bytes::unit_of, crate::specs::Bytes::operands_of, crate::specs::Bytes::progress_of, crate::specs::Bytes::flag_of))]
 pub fn unit_of(b: [u8; 40], seq: u64) -> Unit
     ensures { result ≡ unit_of b seq }
 {
-    let operands = Operands {
-        sources: [b[8], b[9], b[10], b[11], b[12], b[13], b[14], b[15]],
-        destinations: [b[16], b[17], b[18], b[19]],
-        sources_len: b[20],
-        destinations_len: b[21],
-    };
-    let pending = waits_of(b);
-    let phase = phase_of(b[1]);
-    let hazard = hazard_of(b[2]);
-    let progress = Progress {
-        phase,
-        hazard,
-        cycles_left: b[3],
-    };
-    let class = class_at(b[6]);
     Unit {
         seq,
-        operands,
-        pending,
+        operands: Operands {
+            sources: [b[8], b[9], b[10], b[11], b[12], b[13], b[14], b[15]],
+            destinations: [b[16], b[17], b[18], b[19]],
+            sources_len: b[20],
+            destinations_len: b[21],
+        },
+        pending: waits_of(b),
         spec: b[22],
         instance: b[23],
         place: b[5],
-        class,
+        class: class_at(b[6]),
         redirects: b[7] != 0,
         busy: b[0] != 0,
-        progress,
+        progress: Progress {
+            phase: phase_of(b[1]),
+            hazard: hazard_of(b[2]),
+            cycles_left: b[3],
+        },
     }
 }
 
 // A unit's bytes, those of its cases given.
+#[tactic(auto, unfolding(crate::specs::Bytes::row))]
 fn row(u: Unit, busy: u8, phase: u8, hazard: u8, class: u8, redirects: u8) -> [u8; 40]
     ensures { result ≡ row u busy phase hazard class redirects }
 {
@@ -203,20 +203,16 @@ fn row(u: Unit, busy: u8, phase: u8, hazard: u8, class: u8, redirects: u8) -> [u
     ]
 }
 
+#[tactic(auto, unfolding(crate::specs::Bytes::unit_bytes, capability::specs::Numbers::class_number))]
 pub fn unit_bytes(u: Unit) -> [u8; 40]
     ensures { result ≡ unit_bytes u }
 {
-    let progress = u.progress;
-    let phase = progress.phase;
-    let hazard = progress.hazard;
-    let class = u.class;
-    let n = class.as_usize();
     row(
         u,
         flag(u.busy),
-        phase.number(),
-        hazard_byte(hazard),
-        n as u8,
+        u8::from(u.progress.phase),
+        hazard_byte(u.progress.hazard),
+        u.class as u8,
         flag(u.redirects),
     )
 }

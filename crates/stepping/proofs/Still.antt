@@ -1,10 +1,9 @@
 -- Units that a step leaves as they are, so that a loop need not write them.
+use Rattle.std.specs.Prelude.{None, Some}
 use Prim.Native.Nat.{ℕ, ◌-◌}
 use mathlib.Core.Path.{◌≡◌, refl, sym, ap, ◌∙◌}
 use mathlib.Core.Bool.{false, cond, not, ◌&&◌}
-use mathlib.Core.Option.{none, some}
 use mathlib.Core.List.{[]}
-use native.Mathlib.Omega.{arith}
 use lib.Dec.{eqb}
 use Rattle.laws.specs.Lists.{is_empty, keep}
 use Rattle.capability.specs.declared.Phase.{Phase}
@@ -13,11 +12,8 @@ use Rattle.capability.specs.declared.PipelineHazardKind.TheVariants.{ReadAfterWr
 use Rattle.capability.specs.Numbers.{phase_number}
 use Rattle.model.specs.Op.{with_hazard, with_cycles}
 use Rattle.model.specs.Units.{FunctionalUnit, in_phase, with_op, with_pending, with_progress, clear_hazard, without_waits, tick, begin, waits, read_one}
-use Rattle.model.specs.Issue.{stalled_or}
 use Rattle.registers.specs.View.{view_waits}
-use Rattle.flight.specs.declared.MaybeHazard.{MaybeHazard}
-use Rattle.flight.specs.declared.MaybeHazard.TheVariants.{Some, Nothing}
-use Rattle.flight.specs.View.{Legend, view_hazard, op_with}
+use Rattle.flight.specs.View.{Legend, op_with}
 use Rattle.units.specs.declared.Unit.{Unit as Slot}
 use Rattle.units.specs.View.{view_unit}
 use Rattle.bank.proofs.Steps.{step}
@@ -27,13 +23,9 @@ abbrev pub Still : (FunctionalUnit → FunctionalUnit) → Slot → Type 0
 Still f u = (g : Legend) → f (view_unit g u) ≡ view_unit g u
 
 -- One with no hazard has none to clear.
-pub no-hazard : (u : Slot) → stalled_or (view_hazard u.progress.hazard) ≡ 0 → Still clear_hazard u
-unfolding view_unit clear_hazard stalled_or view_hazard op_with
-no-hazard u e g = ap (λ h. with_op (with_hazard h (view_unit g u).op) (view_unit g u)) (sym (none_of u.progress.hazard e))
-  where
-    none_of : (h : MaybeHazard) → stalled_or (view_hazard h) ≡ 0 → view_hazard h ≡ none
-    none_of (Some h) e = absurd (let z : ⊥ = omega arith in z)
-    none_of Nothing e = refl
+pub no_hazard : (u : Slot) → u.progress.hazard ≡ None → Still clear_hazard u
+unfolding view_unit clear_hazard op_with
+no_hazard u e g = ap (λ h. with_op (with_hazard h (view_unit g u).op) (view_unit g u)) (sym e)
 
 -- One that waits for nothing has no wait to lose.
 pub no_waits : (i : ℕ) (u : Slot) → u.pending.len ≡ 0 → Still (without_waits i) u
@@ -65,10 +57,10 @@ module _ (u : FunctionalUnit) (e : u.busy ≡ false) where
   reads-not =
       ap
       (λ b.
-      with_progress (with_hazard (cond (b && not (is_empty u.pending)) (some ReadAfterWrite) u.op.core.hazard) u.op)
+      with_progress (with_hazard (cond (b && not (is_empty u.pending)) (Some ReadAfterWrite) u.op.core.hazard) u.op)
       (cond (b && is_empty u.pending) Read u.phase) u)
       (in-none Wait)
 
-pub not-busy : (u : Slot) → u.busy ≡ false → Still step u
+pub not_busy : (u : Slot) → u.busy ≡ false → Still step u
 unfolding view_unit
-not-busy u e g = ap (λ v. read_one (begin v)) (ticks-not (view_unit g u) e) ∙ ap read_one (begins-not (view_unit g u) e) ∙ reads-not (view_unit g u) e
+not_busy u e g = ap (λ v. read_one (begin v)) (ticks-not (view_unit g u) e) ∙ ap read_one (begins-not (view_unit g u) e) ∙ reads-not (view_unit g u) e

@@ -17,37 +17,37 @@ pub record Turns (f : FunctionalUnit → FunctionalUnit) (us₀ : List (List ℕ
   pub start : Lent us₀ ss₀ n
   pub each : LentEach f (λ (p : ℕ). p) us₀ ss₀ n us ss i
 
-pub turns-first : {f : FunctionalUnit → FunctionalUnit} {us : List (List ℕ)} {ss : List ℕ} {n : ℕ} → Lent us ss n → Turns f us ss n us ss 0
-turns-first l = record { start = l; each = lent-first l }
+pub turns_first : {f : FunctionalUnit → FunctionalUnit} {us : List (List ℕ)} {ss : List ℕ} {n : ℕ} → Lent us ss n → Turns f us ss n us ss 0
+turns_first l = record { start = l; each = lent-first l }
 
 module _ {f : FunctionalUnit → FunctionalUnit} {us₀ : List (List ℕ)} {ss₀ : List ℕ} {n : ℕ} {us : List (List ℕ)} {ss : List ℕ} {i : ℕ} (e : Turns f us₀ ss₀ n us ss i) where
-  pub turns-rows : length us ≡ length us₀
-  turns-rows = lent_rows e.start e.each
+  pub turns_rows : length us ≡ length us₀
+  turns_rows = lent_rows e.start e.each
 
-  pub turns-numbers : length ss ≡ length ss₀
-  turns-numbers = lent-numbers e.start e.each
+  pub turns_numbers : length ss ≡ length ss₀
+  turns_numbers = lent-numbers e.start e.each
 
-  pub turns-last : n ≤ i → LentAre us ss n (λ g. map f (view_units g (units_of us₀ ss₀ n))) (places (units_of us₀ ss₀ n))
-  turns-last h = lent-so (lent-last e.start e.each h) (λ g. refl) (map-id _)
+  pub turns_last : n ≤ i → LentAre us ss n (λ g. map f (view_units g (units_of us₀ ss₀ n))) (places (units_of us₀ ss₀ n))
+  turns_last h = lent-so (lent-last e.start e.each h) (λ g. refl) (map-id _)
 
   module _ (h : i < n) where
     -- What a read and a write at place i ask.
-    pub turns-there : Sized us ss × (i < 64)
-    turns-there = (e.each.size, below e.start h)
+    pub turns_there : Sized us ss × (i < 64)
+    turns_there = (e.each.size, below e.start h)
 
     -- r is what the turn read.
     module _ {r : Slot} (a : At us ss i r) where
-      pub turns-read : UnitOk r
-      turns-read = lent-read e.start e.each h a
+      pub turns_read : UnitOk r
+      turns_read = lent-read e.start e.each h a
 
       -- It wrote x.
-      pub turns-wrote : {x : Slot} {us' : List (List ℕ)} {ss' : List ℕ} → UnitIs x (λ g. f (view_unit g r)) r.place → Put us ss i x us' ss'
+      pub turns_wrote : {x : Slot} {us' : List (List ℕ)} {ss' : List ℕ} → UnitIs x (λ g. f (view_unit g r)) r.place → Put us ss i x us' ss'
           → Turns f us₀ ss₀ n us' ss' (i + 1)
-      turns-wrote m q = record { start = e.start; each = lent-next e.start e.each h a m q }
+      turns_wrote m q = record { start = e.start; each = lent-next e.start e.each h a m q }
 
       -- It wrote nothing, since r would not change.
-      pub turns-left : Still f r → Turns f us₀ ss₀ n us ss (i + 1)
-      turns-left s =
+      pub turns_left : Still f r → Turns f us₀ ss₀ n us ss (i + 1)
+      turns_left s =
           let was = e.each.each in
           record {
             start = e.start;

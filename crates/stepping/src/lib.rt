@@ -2,21 +2,12 @@
 #![tactic(auto)]
 
 ghost use Rattle.std.specs.Prelude.{◌≡◌, map, ◌<◌, set};
-ghost use Rattle.laws.specs.Lists.{any, modify, find_at};
-ghost use Rattle.model.specs.Units.{
-  with_busy,
-  clear,
-  is_busy,
-  clear_hazard,
-  without_waits,
-  tick,
-  begin,
-  read_one,
-  occupy,
-};
+ghost use Rattle.laws.specs.Lists.{modify, find_at};
+ghost use Rattle.std.specs.List.{list_any};
+ghost use Rattle.model.specs.Units.{with_busy, clear, is_busy, clear_hazard, without_waits, tick, begin, read_one, occupy};
 ghost use Rattle.model.specs.Issue.{is_free};
-ghost use Rattle.registers.specs.View.{claimed as index, view_waits, WaitsOk};
-ghost use Rattle.flight.specs.View.{Legend, read, written, view_queued, QueuedOk};
+ghost use Rattle.registers.specs.View.{read, written, view_waits, WaitsOk};
+ghost use Rattle.flight.specs.View.{Legend, view_queued, QueuedOk};
 ghost use Rattle.bank.specs.View.{view_units, places};
 ghost use Rattle.slots.specs.View.{units_of, Lent, LentAre};
 
@@ -28,17 +19,13 @@ pub fn clear_hazards(us: &mut [[u8; 40]], ss: &mut [u64], n: usize)
     requires { Lent us.old ss.old n }
     ensures { LentAre us.new ss.new n (λ g. map clear_hazard (view_units g (units_of us.old ss.old n))) (places (units_of us.old ss.old n)) }
 {
-    let mut i: usize = 0;
-    while i < n {
-        let at = i;
-        i += 1;
-        let u = slots::unit_at(us, ss, at);
-        let progress = u.progress;
-        let hazard = progress.hazard;
-        if hazard.stalled() != 0 {
-            let v = u.clear_hazard();
-            slots::put_unit(us, ss, at, v);
+    for at in 0..n {
+        let mut u = slots::unit_at(us, ss, at);
+        if u.progress.hazard.is_none() {
+            continue;
         }
+        u.clear_hazard();
+        slots::put_unit(us, ss, at, u);
     }
 }
 
@@ -47,16 +34,13 @@ fn without_waits(us: &mut [[u8; 40]], ss: &mut [u64], n: usize, producer: u8)
     requires { Lent us.old ss.old n }
     ensures { LentAre us.new ss.new n (λ g. map (without_waits producer) (view_units g (units_of us.old ss.old n))) (places (units_of us.old ss.old n)) }
 {
-    let mut i: usize = 0;
-    while i < n {
-        let at = i;
-        i += 1;
-        let u = slots::unit_at(us, ss, at);
-        let pending = u.pending;
-        if pending.len != 0 {
-            let v = u.without_waits(producer);
-            slots::put_unit(us, ss, at, v);
+    for at in 0..n {
+        let mut u = slots::unit_at(us, ss, at);
+        if u.pending.len == 0 {
+            continue;
         }
+        u.without_waits(producer);
+        slots::put_unit(us, ss, at, u);
     }
 }
 
@@ -67,9 +51,9 @@ pub fn completed(us: &mut [[u8; 40]], ss: &mut [u64], n: usize, at: usize)
     requires at_lt_n { at < n }
     ensures { LentAre us.new ss.new n (λ g. map (without_waits at) (modify at clear (view_units g (units_of us.old ss.old n)))) (set (places (units_of us.old ss.old n)) at 80) }
 {
-    let u = slots::unit_at(us, ss, at);
-    let v = u.clear();
-    slots::put_unit(us, ss, at, v);
+    let mut u = slots::unit_at(us, ss, at);
+    u.clear();
+    slots::put_unit(us, ss, at, u);
     without_waits(us, ss, n, at as u8);
 }
 
@@ -79,49 +63,41 @@ pub fn stepped(us: &mut [[u8; 40]], ss: &mut [u64], n: usize)
     requires { Lent us.old ss.old n }
     ensures { LentAre us.new ss.new n (λ g. map read_one (map begin (map tick (view_units g (units_of us.old ss.old n))))) (places (units_of us.old ss.old n)) }
 {
-    let mut i: usize = 0;
-    while i < n {
-        let at = i;
-        i += 1;
-        let u = slots::unit_at(us, ss, at);
-        if u.busy {
-            let v = u.stepped();
-            slots::put_unit(us, ss, at, v);
+    for at in 0..n {
+        let mut u = slots::unit_at(us, ss, at);
+        if !u.busy {
+            continue;
         }
+        u.step();
+        slots::put_unit(us, ss, at, u);
     }
 }
 
 // model: any is_busy
 pub fn any_busy(us: &[[u8; 40]], ss: &[u64], n: usize) -> bool
     requires { Lent us.now ss.now n }
-    ensures { (g : Legend) → result ≡ any is_busy (view_units g (units_of us.now ss.now n)) }
+    ensures { (g : Legend) → result ≡ list_any is_busy (view_units g (units_of us.now ss.now n)) }
 {
-    let mut i: usize = 0;
-    while i < n {
-        let u = slots::unit_at(us, ss, i);
-        if u.busy {
+    for i in 0..n {
+        if slots::unit_at(us, ss, i).busy {
             return true;
         }
-        i += 1;
     }
     false
 }
 
-// free_unit, the lowest of the kind; 64 for none.
+// free_unit, the lowest of the kind.
 // model: find_at (is_free spec) 0
-pub fn free_unit(us: &[[u8; 40]], ss: &[u64], n: usize, spec: u8) -> usize
+pub fn free_unit(us: &[[u8; 40]], ss: &[u64], n: usize, spec: u8) -> Option<usize>
     requires { Lent us.now ss.now n }
-    ensures { (g : Legend) → index result ≡ find_at (is_free spec) 0 (view_units g (units_of us.now ss.now n)) }
+    ensures { (g : Legend) → result ≡ find_at (is_free spec) 0 (view_units g (units_of us.now ss.now n)) }
 {
-    let mut i: usize = 0;
-    while i < n {
-        let u = slots::unit_at(us, ss, i);
-        if u.is_free(spec) {
-            return i;
+    for i in 0..n {
+        if slots::unit_at(us, ss, i).is_free(spec) {
+            return Some(i);
         }
-        i += 1;
     }
-    64
+    None
 }
 
 // model: modify i (with_busy busy)
@@ -130,9 +106,9 @@ pub fn set_busy(us: &mut [[u8; 40]], ss: &mut [u64], n: usize, at: usize, busy: 
     requires at_lt_n { at < n }
     ensures { LentAre us.new ss.new n (λ g. modify at (with_busy busy) (view_units g (units_of us.old ss.old n))) (places (units_of us.old ss.old n)) }
 {
-    let u = slots::unit_at(us, ss, at);
-    let v = u.with_busy(busy);
-    slots::put_unit(us, ss, at, v);
+    let mut u = slots::unit_at(us, ss, at);
+    u.set_busy(busy);
+    slots::put_unit(us, ss, at, u);
 }
 
 // model: modify i (occupy ..)
@@ -143,7 +119,7 @@ pub fn occupy(us: &mut [[u8; 40]], ss: &mut [u64], n: usize, at: usize, op: Queu
     requires waits_ok { WaitsOk pending }
     ensures { LentAre us.new ss.new n (λ g. modify at (occupy (view_queued g op) (read op.operands) (written op.operands) (view_waits pending)) (view_units g (units_of us.old ss.old n))) (set (places (units_of us.old ss.old n)) at op.place) }
 {
-    let u = slots::unit_at(us, ss, at);
-    let taken = u.occupy(op, pending);
-    slots::put_unit(us, ss, at, taken);
+    let mut u = slots::unit_at(us, ss, at);
+    u.occupy(&op, pending);
+    slots::put_unit(us, ss, at, u);
 }

@@ -3,13 +3,13 @@ use Prim.Native.Nat.{ℕ, zero, suc, ◌≤◌, ◌<◌}
 use mathlib.Core.Path.{◌≡◌, refl, sym, subst, ap, ◌∙◌}
 use mathlib.Core.Bool.{true, false}
 use mathlib.Core.Logic.{inl, inr}
-use mathlib.Core.Option.{Option, none, some}
+use Rattle.std.specs.Prelude.{Option, None, Some, slice_get}
 use mathlib.Core.List.{List, [], ◌∷◌}
 use native.Mathlib.Omega.{arith}
 use lib.Dec.{eqb}
 use borrow.Author.Tests.{eq-eqb}
 use Rattle.laws.specs.Optional.{value_or}
-use Rattle.laws.specs.Lists.{All, nth, elem, any}
+use Rattle.laws.specs.Lists.{All, elem}
 use Rattle.laws.specs.Texts.{Text}
 use Rattle.laws.proofs.Choices.{none-some, some_inj}
 use Rattle.laws.proofs.Tests.{cond_yes, cond_no, or-yes-second, value_or-some, value_or-none, omap-some}
@@ -41,14 +41,12 @@ use Rattle.telling.specs.Telling.{Placed, PlaceOf, Heard}
 
 -- ── What stands at a place ──────────────────────────────────────────────────
 
-All-nth : {A : Type 0} (P : A → Type 0) (l : List A) (i : ℕ) {x : A} → All P l → nth l i ≡ some x → P x
-unfolding nth
+All-nth : {A : Type 0} (P : A → Type 0) (l : List A) (i : ℕ) {x : A} → All P l → slice_get l i ≡ Some x → P x
 All-nth P [] i {x} a e = none-some x e
 All-nth P (y ∷ ys) zero {x} a e = subst P (some_inj y x e) a.0
 All-nth P (y ∷ ys) (suc i) a e = All-nth P ys i a.1 e
 
-nth-elem : (l : List ℕ) (i : ℕ) {x : ℕ} → nth l i ≡ some x → elem x l ≡ true
-unfolding nth any
+nth-elem : (l : List ℕ) (i : ℕ) {x : ℕ} → slice_get l i ≡ Some x → elem x l ≡ true
 nth-elem [] i {x} e = none-some x e
 nth-elem (y ∷ ys) zero {x} e = any-hit (eqb x) (eq-eqb x y (sym (some_inj y x e))) ys
 nth-elem (y ∷ ys) (suc i) {x} e = or-yes-second (eqb x y) (nth-elem ys i e)
@@ -77,9 +75,9 @@ unit-found {us} {ss} {n} l {at} h a =
       placed = inr (nth-elem (places (units_of us ss n)) at (seen-nth (at_place l h a)));
     }
 
-pub slot-found : {us : List (List ℕ)} {ss : List ℕ} {n : ℕ} → Lent us ss n → {i : ℕ} {u : Slot} → i < n → At us ss i u → nth (slots (units_of us ss n)) i ≡ some u
+pub slot-found : {us : List (List ℕ)} {ss : List ℕ} {n : ℕ} → Lent us ss n → {i : ℕ} {u : Slot} → i < n → At us ss i u → slice_get (slots (units_of us ss n)) i ≡ Some u
 unfolding slots
-slot-found {us} {ss} l {u = u} h a = seen-nth (slice-next (items_of us ss) u (room l.ok) h) ∙ ap some (sym (a u))
+slot-found {us} {ss} l {u = u} h a = seen-nth (slice-next (items_of us ss) u (room l.ok) h) ∙ ap Some (sym (a u))
 
 module _ {us : Units} (ok : UnitsOk us) where
   pub unit-past : (g : Legend) {at : ℕ} → us.len ≤ at → unit_at (view_units g us) at ≡ idle_unit 0 0
@@ -97,17 +95,17 @@ place_found u e = record { is = λ g. place-word g u ∙ ap (λ (v : FunctionalU
 
 -- ── The wait of a unit ──────────────────────────────────────────────────────
 
-slot-place : (us : Units) (i : ℕ) (u : Slot) → nth (slots us) i ≡ some u → elem u.place (places us) ≡ true
+slot-place : (us : Units) (i : ℕ) (u : Slot) → slice_get (slots us) i ≡ Some u → elem u.place (places us) ≡ true
 unfolding slots places
 slot-place us i u e =
     nth-elem (places us) i
-    (ap (λ l. nth l i) (take-map (λ (v : Slot). v.place) us.len us.items)
+    (ap (λ l. slice_get l i) (take-map (λ (v : Slot). v.place) us.len us.items)
     ∙ nth-map (λ (v : Slot). v.place) (slots us) i
     ∙ omap-some (λ (v : Slot). v.place) e)
 
-module _ (us : Units) {u : Slot} (p : Owed) (ok : UnitOk u) (first : view_owed p ≡ value_or (0, 0) (nth (view_waits u.pending) 0)) where
+module _ (us : Units) {u : Slot} (p : Owed) (ok : UnitOk u) (first : view_owed p ≡ value_or (0, 0) (slice_get (view_waits u.pending) 0)) where
   -- The first source of a unit that waits is one of those that it waits for.
-  first-known : (i n : ℕ) → nth (slots us) i ≡ some u → 0 < u.pending.len → All (UnitKnows n) (slots us) → p.register < n
+  first-known : (i n : ℕ) → slice_get (slots us) i ≡ Some u → 0 < u.pending.len → All (UnitKnows n) (slots us) → p.register < n
   unfolding view_owed
   first-known i n e h a =
       let b = (All-nth (UnitKnows n) (slots us) i a e).pending in
@@ -130,7 +128,7 @@ module _ (us : Units) {u : Slot} (p : Owed) (ok : UnitOk u) (first : view_owed p
     unfolding logs detail_of is_redirect names_register producer_text view_unit op_with mnemonic
     heard-busy b =
         record {
-          is = λ f target. heard-so f (some (word_at f.legend x.place)) (cond_yes _ _ b);
+          is = λ f target. heard-so f (Some (word_at f.legend x.place)) (cond_yes _ _ b);
           from =
               λ i w h.
               record { mine = inr (slot-place us i u w); other = e.placed; known = λ n a r. first-known i n w h a; other_form = refl };
@@ -140,7 +138,7 @@ module _ (us : Units) {u : Slot} (p : Owed) (ok : UnitOk u) (first : view_owed p
     unfolding logs detail_of is_redirect names_register producer_text view_unit op_with mnemonic
     heard-idle b =
         record {
-          is = λ f target. heard-so f none (cond_no _ _ b);
+          is = λ f target. heard-so f None (cond_no _ _ b);
           from =
               λ i w h.
               record { mine = inr (slot-place us i u w); other = inl refl; known = λ n a r. first-known i n w h a; other_form = refl };

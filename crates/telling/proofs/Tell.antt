@@ -3,13 +3,13 @@ use Prim.Native.Nat.{ℕ, ◌+◌, ◌≤◌, ◌<◌}
 use mathlib.Core.Path.{◌≡◌, refl, sym, ap, ◌∙◌}
 use mathlib.Core.Bool.{true, false}
 use mathlib.Core.Logic.{⊎_elim}
-use mathlib.Core.Option.{some}
+use Rattle.std.specs.Prelude.{Some, slice_get}
 use mathlib.Core.List.{List, [], ◌∷◌, ◌++◌, map, append_assoc, append-nil}
 use native.Mathlib.Omega.{arith}
 use lib.Dec.{eqb}
 use lib.ListN.{length, drop, length-append}
 use borrow.Author.Tests.{not-true, eqb-false}
-use Rattle.laws.specs.Lists.{All, nth, keep}
+use Rattle.laws.specs.Lists.{All, keep}
 use Rattle.laws.proofs.Tests.{lt-or-ge, and_both}
 use Rattle.laws.proofs.Slices.{Seen, All-append}
 use Rattle.laws.proofs.Kept.{keep-hit, keep-miss}
@@ -148,7 +148,7 @@ module _ {us : Units} (u : Slot) {l₀ l : Log} {i : ℕ} (here : (g : Legend) �
         let told = wait_trace (view_units f.legend us) f.names in
         ap (λ x. map told (keep waits x)) (here f.legend).is ∙ ap (map told) (keep-miss waits (w f.legend) _))
 
-    pub waits-told : {r : Log} {t : Trace} → UnitOk u → nth (slots us) i ≡ some u → ((g : Legend) → waits (view_unit g u) ≡ true) → Heard us u t
+    pub waits-told : {r : Log} {t : Trace} → UnitOk u → slice_get (slots us) i ≡ Some u → ((g : Legend) → waits (view_unit g u) ≡ true) → Heard us u t
         → Logs r (listed l.traces ++ t ∷ []) l.traces.target (λ f. stall_all (view_trace f l.traces.target t ∷ []) (view_log f l))
         → Telling us l₀ r (waits-from us 0) (waits-from us (i + 1)) (i + 1)
     waits-told {t = t} ok at w x s =

@@ -1,7 +1,6 @@
 -- Waits that units tell a log: the model's, and what the numbers in them are.
-use Rattle.std.specs.Prelude.{ℕ, ◌+◌, ◌≤◌, ◌<◌, ◌≡◌, true, ◌⊎◌, List, ◌++◌, map}
-use Rattle.std.proofs.Math.Option.{some}
-use Rattle.laws.specs.Lists.{All, nth, elem, keep}
+use Rattle.std.specs.Prelude.{ℕ, ◌+◌, ◌≤◌, ◌<◌, ◌≡◌, true, ◌⊎◌, List, ◌++◌, map, Some, slice_get}
+use Rattle.laws.specs.Lists.{All, elem, keep}
 use Rattle.model.specs.Traces.{Trace as Wait}
 use Rattle.model.specs.State.{stall_all}
 use Rattle.model.specs.Op.{mnemonic}
@@ -37,7 +36,7 @@ pub record Heard (us : Units) (u : Slot) (t : Trace) : Type 0 where
   pub is
       : (f : Frame) (target : ℕ) → view_trace f target t ≡ wait_trace (view_units f.legend us) f.names (view_unit f.legend u)
   -- Where u is one of the units, and waits.
-  pub from : (i : ℕ) → nth (slots us) i ≡ some u → 0 < u.pending.len → FromUnits us t
+  pub from : (i : ℕ) → slice_get (slots us) i ≡ Some u → 0 < u.pending.len → FromUnits us t
 
 -- The log r is the log l with these waits told, each of them about units.
 pub record Tells (us : Units) (l r : Log) (ws : Frame → List Wait) : Type 0 where

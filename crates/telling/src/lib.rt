@@ -18,22 +18,21 @@ pub fn place_of(us: &[[u8; 40]], ss: &[u64], n: usize, unit: u8) -> u8
 {
     let at = unit as usize;
     if at < n {
-        let u = slots::unit_at(us, ss, at);
-        return u.place;
+        slots::unit_at(us, ss, at).place
+    } else {
+        80
     }
-    80
 }
 
 // What unit u waits for first.
 // model: Issue.wait_trace
-fn wait_trace(us: &[[u8; 40]], ss: &[u64], n: usize, u: Unit) -> Trace
+fn wait_trace(us: &[[u8; 40]], ss: &[u64], n: usize, u: &Unit) -> Trace
     requires lent { Lent us.now ss.now n }
-    requires unit_ok { UnitOk u }
-    ensures { Heard (units_of us.now ss.now n) u result }
+    requires unit_ok { UnitOk u.now }
+    ensures { Heard (units_of us.now ss.now n) u.now result }
 {
-    let pending = u.pending;
-    let p = waits::first(pending);
-    let at = p.unit as usize;
+    let wait = waits::first(&u.pending);
+    let at = wait.unit as usize;
     let producer = if at < n {
         slots::unit_at(us, ss, at)
     } else {
@@ -44,35 +43,30 @@ fn wait_trace(us: &[[u8; 40]], ss: &[u64], n: usize, u: Unit) -> Trace
             form: WaitForm::WaitsFor,
             mine: u.place,
             other: producer.place,
-            number: p.register,
+            number: wait.register,
         }
     } else {
         Trace {
             form: WaitForm::WaitsForOlder,
             mine: u.place,
             other: 80,
-            number: p.register,
+            number: wait.register,
         }
     }
 }
 
 // The waits of the units that wait for a source, in order.
 // model: stall_all (map wait_trace (keep waits units))
-pub fn list_waits(us: &[[u8; 40]], ss: &[u64], n: usize, log: Log) -> Log
+pub fn list_waits(us: &[[u8; 40]], ss: &[u64], n: usize, log: &mut Log)
     requires lent { Lent us.now ss.now n }
-    requires log_ok { LogOk log }
-    requires n_bound { log.traces.len + n ≤ 130 }
-    ensures { Tells (units_of us.now ss.now n) log result (source_waits (units_of us.now ss.now n)) }
+    requires log_ok { LogOk log.old }
+    requires n_bound { log.old.traces.len + n ≤ 130 }
+    ensures { Tells (units_of us.now ss.now n) log.old log.new (source_waits (units_of us.now ss.now n)) }
 {
-    let mut all = log;
-    let mut i: usize = 0;
-    while i < n {
+    for i in 0..n {
         let u = slots::unit_at(us, ss, i);
-        i += 1;
         if u.waits() {
-            let t = wait_trace(us, ss, n, u);
-            all = all.stall(t);
+            log.stall(wait_trace(us, ss, n, &u));
         }
     }
-    all
 }

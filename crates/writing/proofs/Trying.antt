@@ -1,34 +1,18 @@
 -- The finished units in order: those turned away up to the first that is not, and the hazards that they get.
 use Prim.Native.Nat.{ℕ, ◌+◌, ◌≤◌, ◌<◌}
 use mathlib.Core.Path.{◌≡◌, refl, sym, ap, ◌∙◌}
-use mathlib.Core.Bool.{true, false}
-use mathlib.Core.Option.{none, some}
+use Rattle.std.specs.Prelude.{None, Some}
 use mathlib.Core.List.{List, [], ◌∷◌, ◌++◌, map, append-nil}
 use native.Mathlib.Omega.{arith}
 use lib.ListN.{length, get_or, set, take, length-set}
 use lib.Seq.{append_snoc}
-use Rattle.laws.specs.Optional.{is_none, value_or}
 use Rattle.laws.specs.Lists.{All, modify}
-use Rattle.laws.proofs.Tests.{cond-lt}
 use Rattle.laws.proofs.Slices.{slice-next, slice-end, view-next, All-seen, All-append}
 use Rattle.laws.proofs.Search.{Scan, scan-first, scan-next, scan-stop, scan-last}
 use Rattle.laws.proofs.Shift.{pushed, view-pushed}
 use Rattle.capability.specs.declared.PipelineHazardKind.{PipelineHazardKind}
 use Rattle.model.specs.Units.{FunctionalUnit, mark_hazard}
-use Rattle.model.specs.Write.{
-  Blocked as Reason,
-  drain,
-  blocked_kind,
-  write_blocked,
-  Tried as Outcome,
-  tried,
-  try_one,
-  ready_at,
-  try_writes,
-  writable_unit,
-  mark_blocked,
-}
-use Rattle.registers.specs.View.{claimed as index}
+use Rattle.model.specs.Write.{Blocked as Reason, blocked_kind, write_blocked, Tried as Outcome, tried, try_one, ready_at, try_writes, writable_unit, mark_blocked}
 use Rattle.flight.specs.View.{Legend}
 use Rattle.units.specs.declared.Unit.{Unit as Slot}
 use Rattle.units.specs.View.{view_unit, UnitOk, UnitIs}
@@ -40,21 +24,8 @@ use Rattle.writing.specs.declared.Ready.{Ready}
 use Rattle.writing.specs.declared.Blocked.{Blocked}
 use Rattle.writing.specs.declared.Turned.{Turned}
 use Rattle.writing.specs.declared.Tried.{Tried}
-use Rattle.writing.specs.View.{
-  view_ready,
-  ReadyOk,
-  ReadyIs,
-  view_blocked,
-  view_turned,
-  turned_away,
-  view_tried,
-  BlockedIs,
-  TurnedOk,
-  TriedOk,
-  TriedIs,
-}
+use Rattle.writing.specs.View.{view_ready, ReadyOk, ReadyIs, view_reason, view_turned, turned_away, view_tried, BlockedIs, TurnedOk, TriedOk, TriedIs}
 use Rattle.writing.proofs.Gathering.{ready-next, ready-inside, ready-end}
-use Rattle.writing.proofs.Reasons.{there, not_there, is-there}
 
 -- ── The model's list, one by one ────────────────────────────────────────────
 
@@ -63,21 +34,21 @@ abbrev pub trying : List FunctionalUnit → List (ℕ × Reason) → List (ℕ �
 trying us t qs = tried (t ++ (try_writes us qs).turned_away) (try_writes us qs).found
 
 module _ (us : List FunctionalUnit) (t : List (ℕ × Reason)) where
-  try-away : (q : ℕ × ℕ) {b : Reason} → write_blocked us q.1 ≡ some b → (qs : List (ℕ × ℕ)) → trying us t (q ∷ qs) ≡ trying us (t ++ (q.1, b) ∷ []) qs
+  try-away : (q : ℕ × ℕ) {b : Reason} → write_blocked us q.1 ≡ Some b → (qs : List (ℕ × ℕ)) → trying us t (q ∷ qs) ≡ trying us (t ++ (q.1, b) ∷ []) qs
   unfolding try_writes try_one
   try-away q {b} e qs =
       ap (λ o. tried (t ++ (try_one q.1 o (try_writes us qs)).turned_away) (try_one q.1 o (try_writes us qs)).found) e
       ∙ ap (λ l. tried l (try_writes us qs).found) (sym (append_snoc t (q.1, b) (try_writes us qs).turned_away))
 
-  try-found : (q : ℕ × ℕ) → write_blocked us q.1 ≡ none → (qs : List (ℕ × ℕ)) → trying us t (q ∷ qs) ≡ tried t (some q.1)
+  try-found : (q : ℕ × ℕ) → write_blocked us q.1 ≡ None → (qs : List (ℕ × ℕ)) → trying us t (q ∷ qs) ≡ tried t (Some q.1)
   unfolding try_writes try_one
   try-found q e qs =
       ap (λ o. tried (t ++ (try_one q.1 o (try_writes us qs)).turned_away) (try_one q.1 o (try_writes us qs)).found) e
-      ∙ ap (λ l. tried l (some q.1)) (append-nil t)
+      ∙ ap (λ l. tried l (Some q.1)) (append-nil t)
 
-  try-end : trying us t [] ≡ tried t none
+  try-end : trying us t [] ≡ tried t None
   unfolding try_writes
-  try-end = ap (λ l. tried l none) (append-nil t)
+  try-end = ap (λ l. tried l None) (append-nil t)
 
 abbrev pub marking : List FunctionalUnit → List (ℕ × Reason) → List FunctionalUnit
 marking us bs = mark_blocked bs us
@@ -99,12 +70,12 @@ pub record Tries (ss : List ℕ) (us : Units) (r : Ready) (t : Tried) (k : ℕ) 
   pub len : t.len ≡ k
   pub size : length t.items ≡ 64
   pub each : All (TurnedOk us) (take t.len t.items)
-  pub found : t.found ≡ 64
+  pub found : t.found ≡ None
   pub is : (g : Legend) → Scan (trying (view_units g us)) [] (view_ready ss r) r.len (turned_away t) k
 
 module _ {ss : List ℕ} {us : Units} {r : Ready} (ok : UnitsOk us) (rok : ReadyOk r) (few : r.len ≤ us.len)
     (below : All (λ (q : ℕ × ℕ). q.1 < us.len) (view_ready ss r)) where
-  pub tries-first : {items : List Turned} → length items ≡ 64 → Tries ss us r (record { items = items; len = 0; found = 64 }) 0
+  pub tries-first : {items : List Turned} → length items ≡ 64 → Tries ss us r (record { items = items; len = 0; found = None }) 0
   unfolding turned_away
   tries-first s = record { most = omega arith; len = refl; size = s; each = tt; found = refl; is = λ g. scan-first }
 
@@ -112,10 +83,10 @@ module _ {ss : List ℕ} {us : Units} {r : Ready} (ok : UnitsOk us) (rok : Ready
     pub tries-unit : get_or r.items k d < us.len
     tries-unit = ready-inside ss rok below d h
 
-    pub tries-next : {b : Blocked} → BlockedIs us b (λ g. write_blocked (view_units g us) (get_or r.items k d)) → is_none (view_blocked b) ≡ false
+    pub tries-next : {b : Blocked} → BlockedIs us (Some b) (λ g. write_blocked (view_units g us) (get_or r.items k d))
         → Tries ss us r (record { items = set t.items k (record { unit = get_or r.items k d; blocked = b }); len = k + 1; found = t.found }) (k + 1)
     unfolding turned_away view_turned
-    tries-next {b} m n =
+    tries-next {b} m =
         let x : Turned = record { unit = get_or r.items k d; blocked = b } in
         let space : k < length t.items = omega (arith, ok.few, e.size) in
         let more : take (k + 1) (map view_turned (set t.items k x)) ≡ turned_away t ++ view_turned x ∷ [] =
@@ -129,35 +100,30 @@ module _ {ss : List ℕ} {us : Units} {r : Ready} (ok : UnitsOk us) (rok : Ready
           each =
               rw all
               (All-append (TurnedOk us) (take t.len t.items) (x ∷ []) e.each
-              (record { unit = tries-unit; reason = is-there (view_blocked b) n; known = m.known }, tt));
+              (record { unit = tries-unit; known = m.known }, tt));
           found = e.found;
           is = λ g.
               scan-next (e.is g) (ready-next ss rok d h)
               (λ qs.
-              try-away (view_units g us) (turned_away t) _ (sym (m.is g) ∙ there (view_blocked b) drain n) qs
+              try-away (view_units g us) (turned_away t) _ (sym (m.is g)) qs
               ∙ ap (λ l. trying (view_units g us) l qs) (sym more));
         }
 
-    pub tries-found : {b : Blocked} → BlockedIs us b (λ g. write_blocked (view_units g us) (get_or r.items k d)) → is_none (view_blocked b) ≡ true
-        → TriedIs us (record { items = t.items; len = t.len; found = get_or r.items k d }) (λ g. try_writes (view_units g us) (view_ready ss r))
-    unfolding view_tried turned_away index
-    tries-found {b} m n =
-        let j : ℕ = get_or r.items k d in
+    pub tries-found : BlockedIs us None (λ g. write_blocked (view_units g us) (get_or r.items k d))
+        → TriedIs us (record { items = t.items; len = t.len; found = Some (get_or r.items k d) }) (λ g. try_writes (view_units g us) (view_ready ss r))
+    unfolding view_tried turned_away
+    tries-found m =
         record {
-          is = λ g.
-              ap (tried (turned_away t)) (cond-lt (some j) none {m = j} {n = 64} (omega (arith, tries-unit, ok.few)))
-              ∙ scan-stop (e.is g) (ready-next ss rok d h) (try-found (view_units g us) (turned_away t) _ (sym (m.is g) ∙ not_there (view_blocked b) n));
-          ok = record { few = omega (arith, e.len); size = e.size; each = e.each; found = λ q. tries-unit };
+          is = λ g. scan-stop (e.is g) (ready-next ss rok d h) (try-found (view_units g us) (turned_away t) _ (sym (m.is g)));
+          ok = record { few = omega (arith, e.len); size = e.size; each = e.each; found = tries-unit };
         }
 
   pub tries-last : {t : Tried} {k : ℕ} → Tries ss us r t k → r.len ≤ k → TriedIs us t (λ g. try_writes (view_units g us) (view_ready ss r))
-  unfolding view_tried index
+  unfolding view_tried
   tries-last {t} {k} e h =
       record {
-        is = λ g.
-            ap (λ f. tried (turned_away t) (index f)) e.found
-            ∙ scan-last (e.is g) (ready-end ss r h) (try-end (view_units g us) (turned_away t));
-        ok = record { few = omega (arith, e.len, e.most); size = e.size; each = e.each; found = λ q. absurd (omega (arith, e.found)) };
+        is = λ g. ap (tried (turned_away t)) e.found ∙ scan-last (e.is g) (ready-end ss r h) (try-end (view_units g us) (turned_away t));
+        ok = record { few = omega (arith, e.len, e.most); size = e.size; each = e.each; found = rw e.found tt };
       }
 
 -- The list that was tried is that of the finished units.
@@ -183,12 +149,6 @@ module _ {us₀ : List (List ℕ)} {ss₀ : List ℕ} {n : ℕ} {t : Tried} (l :
   tried-room = omega (arith, tok.few, tok.size, l.ok.few)
 
   module _ {us : List (List ℕ)} {ss : List ℕ} {k : ℕ} (e : Marked us₀ ss₀ n t us ss k) where
-    pub marked-rows : length us ≡ length us₀
-    marked-rows = e.lent.size.rows ∙ sym l.size.rows
-
-    pub marked-numbers : length ss ≡ length ss₀
-    marked-numbers = e.lent.size.numbers ∙ sym l.size.numbers
-
     module _ (h : k < t.len) (d : Turned) where
       pub marked-unit : (get_or t.items k d).unit < n
       marked-unit = (All-seen (TurnedOk (units_of us₀ ss₀ n)) (take t.len t.items) tok.each (slice-next t.items d tried-room h)).unit
@@ -202,7 +162,7 @@ module _ {us₀ : List (List ℕ)} {ss₀ : List ℕ} {n : ℕ} {t : Tried} (l :
         marked-read = at_ok e.lent marked-unit a
 
         pub marked_next : {x : Slot} {kind : PipelineHazardKind} {us' : List (List ℕ)} {ss' : List ℕ}
-            → kind ≡ blocked_kind (value_or drain (view_blocked (get_or t.items k d).blocked))
+            → kind ≡ blocked_kind (view_reason (get_or t.items k d).blocked)
             → UnitIs x (λ g. mark_hazard kind (view_unit g u)) u.place
             → Put us ss (get_or t.items k d).unit x us' ss'
             → Marked us₀ ss₀ n t us' ss' (k + 1)

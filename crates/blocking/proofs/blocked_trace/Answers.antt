@@ -7,5 +7,5 @@ returns-in-War c = told-war c.place_of-mine.ensures c.requires.turned_ok c.place
 pub returns-in-Memory : goal.returns-in-Memory
 returns-in-Memory c = told-memory c.place_of-mine.ensures c.place_of-in-Memory.ensures c.in-Memory.is
 
-pub returns-in_default : goal.returns-in_default
-returns-in_default c = told-drain c.place_of-mine.ensures c.in_default.not-War c.in_default.not-Memory
+pub returns-in-Drain : goal.returns-in-Drain
+returns-in-Drain c = told-drain c.place_of-mine.ensures c.in-Drain.is

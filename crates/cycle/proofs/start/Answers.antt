@@ -1,5 +1,4 @@
-use Prim.Native.Nat.{◌≤◌}
-use mathlib.Core.Path.{sym, subst, ap, ◌∙◌}
+use Rattle.std.proofs.Common.{◌≤◌, sym, subst, ap, ◌∙◌}
 use Rattle.model.specs.Write.{writable_unit, offer_found, start_cycle}
 use Rattle.slots.specs.View.{units_of}
 use Rattle.board.specs.View.{view_board, board_of}
@@ -7,8 +6,8 @@ use Rattle.cycle.proofs.start.Goals as goal
 
 pub returns : goal.returns
 unfolding view_board start_cycle
-returns c = let b = board_of c.opened-b.result (units_of c.opened-b.new.us c.opened-b.new.ss c.args.n) in
-    let o = c.opened-b.ensures.is in
+returns c = let b = board_of c.opened-opened.result (units_of c.opened-opened.new.us c.opened-opened.new.ss c.args.n) in
+    let o = c.opened-opened.ensures.is in
     let w = c.writable_unit-tried.ensures in
     let e = c.offer_found.ensures.is in
     record {

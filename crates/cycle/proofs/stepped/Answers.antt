@@ -1,6 +1,4 @@
-use mathlib.Core.Path.{refl, sym, subst, ap, ◌∙◌}
-use mathlib.Core.List.{[], ◌∷◌, ◌++◌, map}
-use native.Mathlib.Omega.{arith}
+use Rattle.std.proofs.Common.{refl, sym, subst, ap, ◌∙◌, [], ◌∷◌, ◌++◌, map, arith}
 use Rattle.laws.specs.Lists.{All, keep}
 use Rattle.model.specs.State.{stall_all}
 use Rattle.model.specs.Units.{tick, begin, waits}
@@ -25,7 +23,7 @@ returns c = let b = board_of c.args.board (units_of c.args.us.now c.args.ss.now 
     let us = units_of c.stepped.new.us c.stepped.new.ss c.args.n in
     let ok = c.requires.board_ok in
     let e = c.stepped.ensures.are in
-    let l = c.list_waits-l.ensures in
+    let l = c.list_waits.ensures in
     let knows = knows-kept b.claims.len b.units e (λ g. stepped-knows b.claims.len (view_units g b.units)) ok.knows in
     record {
       is =

@@ -1,12 +1,13 @@
 use mathlib.Core.Path.{refl, sym, subst, ap, ◌∙◌}
-use mathlib.Core.Option.{some}
+use Rattle.std.specs.Prelude.{Some}
 use mathlib.Core.List.{[], ◌∷◌, ◌++◌, map}
 use Rattle.laws.specs.Lists.{All, modify}
 use Rattle.laws.proofs.Slices.{All-append}
 use Rattle.model.specs.Op.{Op, with_hazard}
 use Rattle.model.specs.State.{stall_all}
 use Rattle.flight.specs.declared.Queued.{Queued}
-use Rattle.flight.specs.View.{view_operands, view_queue, entries}
+use Rattle.flight.specs.View.{view_queue, entries}
+use Rattle.registers.specs.View.{view_operands}
 use Rattle.stalls.specs.View.{view_trace, listed, view_log}
 use Rattle.stalls.specs.Promises.{Known}
 use Rattle.board.specs.View.{log_frame, board_of, boards}
@@ -21,13 +22,13 @@ returns c = λ us ok.
     let b = board_of c.args.board us in
     let w = c.args.form in
     let n = c.args.number in
-    let e = c.block_front-q.ensures in
-    let h = c.stall-l.ensures in
+    let e = c.block_front.ensures in
+    let h = c.stall.ensures in
     let l = listed b.log.traces in
     record {
       is =
           λ q f x. state-by refl
-          (e.is x.legend ∙ ap (λ t. modify 0 (with_hazard (some t)) (view_queue x.legend b.queue)) c.kind_of-kind.ensures)
+          (e.is x.legend ∙ ap (λ t. modify 0 (with_hazard (Some t)) (view_queue x.legend b.queue)) c.kind_of.ensures)
           refl refl refl refl refl
           (h.is (log_frame x b)
           ∙ ap

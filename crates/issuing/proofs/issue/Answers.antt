@@ -1,3 +1,4 @@
+use Rattle.std.specs.Prelude.{None}
 use Prim.Native.Nat.{ℕ, ◌<◌}
 use mathlib.Core.Path.{◌≡◌, ◌∙◌}
 use native.Mathlib.Omega.{arith}
@@ -5,7 +6,6 @@ use mathlib.Core.Bool.{false}
 use lib.ListN.{get_or}
 use mathlib.Core.List.{[]}
 use Rattle.capability.specs.declared.PipelineInstructionClass.TheVariants.{Unknown}
-use Rattle.flight.specs.declared.MaybeHazard.TheVariants.{Nothing}
 use Rattle.flight.specs.declared.Queued.{Queued}
 use Rattle.stalls.specs.View.{listed}
 use Rattle.stalls.specs.Promises.{names_register}
@@ -30,7 +30,7 @@ spare =
       operands = record { sources = []; destinations = []; sources_len = 0; destinations_len = 0 };
       class = Unknown;
       branch = false;
-      hazard = Nothing;
+      hazard = None;
       latency = 0;
       place = 80;
     }
@@ -42,14 +42,14 @@ fronts : {b : Board} → BoardOk b → (b.queue.len ≡ 0 → ⊥) → Fronts (f
 unfolding front
 fronts ok n = front-first ok.queue spare (some-queued ok n)
 
-pub returns-then-queue-eq0 : goal.returns-then-queue-eq0
-returns-then-queue-eq0 c = let us = units_of c.args.us.now c.args.ss.now c.args.n in
+pub returns-then-board-eq0 : goal.returns-then-board-eq0
+returns-then-board-eq0 c = let us = units_of c.args.us.now c.args.ss.now c.args.n in
     let b = board_of c.args.board us in
     let ok = c.requires.board_ok in
     record {
       is =
           record {
-            is = λ x m l. issue-none x b ok.queue c.if-queue-eq0.true;
+            is = λ x m l. issue-none x b ok.queue c.if-board-eq0.true;
             ok = ok;
             few = omega arith;
             apart = λ a. a;
@@ -70,7 +70,7 @@ pub returns-then-board : goal.returns-then-board
 returns-then-board c = let us = units_of c.args.us.now c.args.ss.now c.args.n in
     let b = board_of c.args.board us in
     let q = front b in
-    let f = fronts c.requires.board_ok c.if-queue-eq0.false in
+    let f = fronts c.requires.board_ok c.if-board-eq0.false in
     let h = c.blocked.ensures us c.requires.board_ok in
     record {
       is =
@@ -96,7 +96,7 @@ pub returns-then-board-2 : goal.returns-then-board-2
 returns-then-board-2 c = let us = units_of c.args.us.now c.args.ss.now c.args.n in
     let b = board_of c.args.board us in
     let q = front b in
-    let f = fronts c.requires.board_ok c.if-queue-eq0.false in
+    let f = fronts c.requires.board_ok c.if-board-eq0.false in
     let h = c.blocked-then-board-2.ensures us c.requires.board_ok in
     record {
       is =
@@ -115,7 +115,7 @@ returns-then-board-2 c = let us = units_of c.args.us.now c.args.ss.now c.args.n 
 
 pub issue_looked-requires : goal.issue_looked-requires
 issue_looked-requires c = let ok = c.requires.board_ok in
-    record { sized = c.requires.sized; board_ok = ok; machine_ok = c.requires.machine_ok; len_bound = c.requires.len_bound; fronts = front-first ok.queue _ (some-queued ok c.if-queue-eq0.false) }
+    record { sized = c.requires.sized; board_ok = ok; machine_ok = c.requires.machine_ok; len_bound = c.requires.len_bound; fronts = front-first ok.queue _ (some-queued ok c.if-board-eq0.false) }
 
 pub returns : goal.returns
 returns c = let us = units_of c.args.us.now c.args.ss.now c.args.n in
@@ -125,7 +125,7 @@ returns c = let us = units_of c.args.us.now c.args.ss.now c.args.n in
     record {
       is =
           record {
-            is = λ x m l. e.is x m l ∙ issue-looks x b _ (front-first ok.queue _ (some-queued ok c.if-queue-eq0.false)) c.if-board.false c.if-board-2.false;
+            is = λ x m l. e.is x m l ∙ issue-looks x b _ (front-first ok.queue _ (some-queued ok c.if-board-eq0.false)) c.if-board.false c.if-board-2.false;
             ok = e.ok;
             few = e.few;
             apart = e.apart;

@@ -5,10 +5,10 @@ use mathlib.Core.Logic.{◌⊎◌, inl, inr, ⊎_elim}
 use native.Mathlib.Omega.{arith}
 use lib.ListN.{get_or}
 use Rattle.laws.specs.Lists.{All, rest}
-use Rattle.registers.specs.View.{view_claims}
+use Rattle.registers.specs.View.{view_claims, read, written, view_operands}
 use Rattle.config.specs.declared.Machine.{Machine}
 use Rattle.flight.specs.declared.Queued.{Queued}
-use Rattle.flight.specs.View.{read, written, view_operands, view_queued, entries}
+use Rattle.flight.specs.View.{view_queued, entries}
 use Rattle.timeline.specs.declared.WaitForm.{WaitForm}
 use Rattle.stalls.specs.Promises.{names_register}
 use Rattle.bank.specs.View.{places}
@@ -58,16 +58,16 @@ module _ {b r : Board} (q : Queued) (e : Learns b q.operands r) where
 pub looked-b-requires : goal.looked-b-requires
 looked-b-requires c = record { claims_ok = c.requires.board_ok.claims; queued_ok = front-ok c.requires.board_ok.queue c.requires.fronts }
 
-pub way_looked-way-requires : goal.way_looked-way-requires
-way_looked-way-requires c = record { sized = c.requires.sized; board_ok = (c.looked-b.ensures (units_of c.args.us.now c.args.ss.now c.args.n) c.requires.board_ok).ok; queued_ok = front-ok c.requires.board_ok.queue c.requires.fronts; machine_ok = c.requires.machine_ok }
+pub way_looked-requires : goal.way_looked-requires
+way_looked-requires c = record { sized = c.requires.sized; board_ok = (c.looked-b.ensures (units_of c.args.us.now c.args.ss.now c.args.n) c.requires.board_ok).ok; queued_ok = front-ok c.requires.board_ok.queue c.requires.fronts; machine_ok = c.requires.machine_ok }
 
 pub blocked-requires : goal.blocked-requires
 blocked-requires c = let e = c.looked-b.ensures (units_of c.args.us.now c.args.ss.now c.args.n) c.requires.board_ok in
-    record { queue_ok = e.ok.queue; log_ok = e.ok.log; len_bound = subst (λ l. l.traces.len < 130) (sym e.log) c.requires.len_bound; number_lt_len = named-known c.args.front e (c.way_looked-way.ensures.blocked _ _ c.in-Blocked.is) }
+    record { queue_ok = e.ok.queue; log_ok = e.ok.log; len_bound = subst (λ l. l.traces.len < 130) (sym e.log) c.requires.len_bound; number_lt_len = named-known c.args.front e (c.way_looked.ensures.blocked _ _ c.in-Blocked.is) }
 
 pub placed-requires : goal.placed-requires
 placed-requires c = let e = c.looked-b.ensures (units_of c.args.us.now c.args.ss.now c.args.n) c.requires.board_ok in
-    let f = c.way_looked-way.ensures.into _ c.in-Into.is in
+    let f = c.way_looked.ensures.into _ c.in-Into.is in
     record { sized = c.requires.sized; board_ok = e.ok; queued_ok = front-ok c.requires.board_ok.queue c.requires.fronts; at_lt_n = free-inside e.ok.units blank _ (f.free blank); all = all_known c.args.front e }
 
 pub returns-in-Blocked : goal.returns-in-Blocked
@@ -81,7 +81,7 @@ returns-in-Blocked c = let us = units_of c.args.us.now c.args.ss.now c.args.n in
     let e = c.looked-b.ensures us c.requires.board_ok in
     let h = c.blocked.ensures us e.ok in
     let g = learns-fronts b r e q f in
-    let w = c.way_looked-way.ensures.blocked _ _ c.in-Blocked.is in
+    let w = c.way_looked.ensures.blocked _ _ c.in-Blocked.is in
     record {
       is =
           record {
@@ -111,7 +111,7 @@ returns-in-Into c = let us = units_of c.args.us.now c.args.ss.now c.args.n in
     let e = c.looked-b.ensures us c.requires.board_ok in
     let p = c.placed.ensures.is in
     let g = learns-fronts b r e q f in
-    let w = c.way_looked-way.ensures.into _ c.in-Into.is in
+    let w = c.way_looked.ensures.into _ c.in-Into.is in
     let i = free-inside e.ok.units blank _ (w.free blank) in
     record {
       is =

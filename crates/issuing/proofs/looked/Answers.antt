@@ -5,11 +5,11 @@ use native.Mathlib.Omega.{arith}
 use lib.ListN.{length, replicate}
 use Rattle.laws.proofs.Slices.{All-take, All-append}
 use Rattle.model.specs.Registers.{pad}
-use Rattle.flight.specs.View.{read, written}
+use Rattle.registers.specs.View.{read, written, view_claims}
 use Rattle.issuing.specs.Steps.{numbers}
-use Rattle.registers.specs.View.{view_claims}
 use Rattle.registers.proofs.Owing.{claims-length}
-use Rattle.op.specs.View.{view_maybe_text}
+use Rattle.op.specs.Chars.{view_text}
+use Rattle.std.specs.Prelude.{option_map}
 use Rattle.stalls.specs.View.{listed}
 use Rattle.bank.specs.View.{slots}
 use Rattle.board.specs.View.{board_of, boards}
@@ -19,8 +19,8 @@ use mir.Syntax.{w8}
 use borrow.Author.Rules.{elem_Fits}
 use Rattle.issuing.proofs.looked.Goals as goal
 
-pub padded-c-requires : goal.padded-c-requires
-padded-c-requires c =
+pub pad-requires : goal.pad-requires
+pad-requires c =
     let x = c.args.front.operands in
     let f = c.well_formed.1.0.1.1.1.0.1.1 in
     let r = all-below 256 x.sources (λ i. (elem_Fits w8 w8 x.sources _ i f.0.1.1 tt).fits) in
@@ -36,18 +36,18 @@ pub returns : goal.returns
 unfolding boards
 returns c = λ us ok.
     let b = board_of c.args.board us in
-    let h = c.padded-c.ensures in
+    let h = c.pad.ensures in
     let t = c.through.ensures in
     let k =
     sym (claims-length h.ok) ∙ ap length h.is ∙ pad-count (view_claims b.claims) c.through.result [] ∙ ap₂ max (claims-length ok.claims) t
     in
-    let more : b.claims.len ≤ c.padded-c.result.len = omega (arith, k) in
+    let more : b.claims.len ≤ c.pad.new.self.len = omega (arith, k) in
     record {
       claims = h.is ∙ ap (λ n. pad (view_claims b.claims) (replicate n [])) t;
       known = k;
       is =
           λ f. state-by refl refl refl refl refl refl refl
-          (log-more f (view_maybe_text b.status) b.log more ok.known);
+          (log-more f (option_map view_text b.status) b.log more ok.known);
       ok =
           record {
             units = ok.units;

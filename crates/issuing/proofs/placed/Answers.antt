@@ -6,9 +6,10 @@ use Rattle.laws.specs.Lists.{All, modify}
 use Rattle.model.specs.Units.{occupy}
 use Rattle.model.specs.State.{marks}
 use Rattle.model.specs.Issue.{place}
-use Rattle.registers.specs.View.{view_claims, view_waits}
-use Rattle.op.specs.View.{view_maybe_text}
-use Rattle.flight.specs.View.{read, written, view_queued, op_with}
+use Rattle.registers.specs.View.{view_claims, view_waits, read, written}
+use Rattle.op.specs.Chars.{view_text}
+use Rattle.std.specs.Prelude.{option_map}
+use Rattle.flight.specs.View.{view_queued, op_with}
 use Rattle.stalls.specs.View.{listed}
 use Rattle.stalls.specs.Promises.{Known}
 use Rattle.bank.specs.View.{view_units, slots, UnitKnows}
@@ -28,9 +29,9 @@ returns c = let b = board_of c.args.board (units_of c.args.us.now c.args.ss.now 
     let ok = c.requires.board_ok in
     let n = b.claims.len in
     let e = c.occupy.ensures.are in
-    let f = c.claim_all-c.ensures in
-    let g = c.pop_front-q.ensures in
-    let h = c.waits_on-pending.ensures in
+    let f = rw c.writes.ensures at c.claim_all.ensures in
+    let g = c.pop_front.ensures in
+    let h = rw c.reads.ensures at c.waits_on-pending.ensures in
     let k = claims-kept ok.claims f (claimed-length at (view_claims b.claims) _) in
     let u = c.requires.all in
     record {
@@ -41,11 +42,11 @@ returns c = let b = board_of c.args.board (units_of c.args.us.now c.args.ss.now 
                 (e.is x.legend
                 ∙ ap (λ ws. modify at (occupy (view_queued x.legend q) (read q.operands) (written q.operands) ws) (view_units x.legend b.units)) h.is)
                 (g.is x.legend) (names-kept x b _ k) f.is
-                (ap₂ marks (or-joined (elim c.if-front.branch [ then-front w ↦ inl (w.if-front.true, w.b-is) | else-front w ↦ inr (w.if-front.false, w.b-is) ]))
-                (or-joined (elim c.if-is_system.branch [ then-is_system w ↦ inl (w.if-is_system.true, w.b-is) | else-is_system w ↦ inr (w.if-is_system.false, w.b-is) ])
+                (ap₂ marks (or-joined (elim c.if-front.branch [ then-front w ↦ inl (w.if-front.true, w.board-is) | else-front w ↦ inr (w.if-front.false, w.board-is) ]))
+                (or-joined (elim c.if-is_system.branch [ then-is_system w ↦ inl (w.if-is_system.true, w.board-is) | else-is_system w ↦ inr (w.if-is_system.false, w.board-is) ])
                 ∙ ap (λ t. t || b.marks.system) c.is_system.ensures))
                 refl refl
-                (log-names x (view_maybe_text b.status) b.log (names-kept x b _ k));
+                (log-names x (option_map view_text b.status) b.log (names-kept x b _ k));
             ok =
                 record {
                   units = e.ok;

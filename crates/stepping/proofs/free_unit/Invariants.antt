@@ -1,4 +1,3 @@
-use Prim.Native.Nat.{◌-◌}
 use Rattle.laws.specs.Lists.{find_at}
 use Rattle.laws.proofs.Search.{Scan}
 use Rattle.model.specs.Issue.{is_free}
@@ -9,6 +8,3 @@ use Rattle.stepping.proofs.free_unit.Given as goal
 
 abbrev pub invariant-loop-i : goal.invariant-loop-i
 invariant-loop-i l = (g : Legend) → Scan (find_at (is_free l.spec)) 0 (view_units g (units_of l.us l.ss l.n)) l.n l.i l.i
-
-abbrev pub decreases-loop-i : goal.decreases-loop-i
-decreases-loop-i l = l.n - l.i

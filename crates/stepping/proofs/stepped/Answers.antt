@@ -1,22 +1,22 @@
-use mathlib.Core.Path.{refl, sym}
+use Rattle.std.proofs.Common.{refl, sym, rules}
 use Rattle.bank.specs.View.{view_units}
 use Rattle.bank.proofs.Steps.{steps}
 use Rattle.slots.proofs.Loops.{lent-so}
-use Rattle.stepping.proofs.Still.{not-busy}
-use Rattle.stepping.proofs.Turns.{turns-first, turns-read, turns-wrote, turns-left, turns-last}
+use Rattle.stepping.proofs.Still.{not_busy}
+use Rattle.stepping.proofs.Turns.{turns_first, turns_read, turns_wrote, turns_left, turns_last}
 use Rattle.stepping.proofs.stepped.Goals as goal
 
-pub loop-i-init : goal.loop-i-init
-loop-i-init c = turns-first c.requires
+pub loop-at-init : goal.loop-at-init
+loop-at-init c = turns_first c.requires
 
-pub stepped-v-requires : goal.stepped-v-requires
-stepped-v-requires c = turns-read c.loop-i.invariant c.loop-i-test.true c.unit_at-u.ensures
+pub step-requires : goal.step-requires
+step-requires c = turns_read c.loop-at.invariant c.loop-at-test.true c.unit_at-u.ensures
 
-pub loop-i-preserved-then-u : goal.loop-i-preserved-then-u
-loop-i-preserved-then-u c = turns-wrote c.loop-i.invariant c.loop-i-test.true c.unit_at-u.ensures c.stepped-v.ensures c.put_unit.ensures
+pub loop-at-preserved : goal.loop-at-preserved
+loop-at-preserved c = turns_wrote c.loop-at.invariant c.loop-at-test.true c.unit_at-u.ensures c.step.ensures c.put_unit.ensures
 
-pub loop-i-preserved : goal.loop-i-preserved
-loop-i-preserved c = turns-left c.loop-i.invariant c.loop-i-test.true c.unit_at-u.ensures (not-busy _ c.if-u.false)
+pub loop-at-preserved-then-not-u : goal.loop-at-preserved-then-not-u
+loop-at-preserved-then-not-u c = turns_left c.loop-at.invariant c.loop-at-test.true c.unit_at-u.ensures (not_busy _ (search rules))
 
 pub returns : goal.returns
-returns c = lent-so (turns-last c.loop-i.invariant c.loop-i-test.false) (λ g. sym (steps (view_units g _))) refl
+returns c = lent-so (turns_last c.loop-at.invariant c.loop-at-test.false) (λ g. sym (steps (view_units g _))) refl

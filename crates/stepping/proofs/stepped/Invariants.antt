@@ -1,10 +1,6 @@
-use Prim.Native.Nat.{◌-◌}
 use Rattle.bank.proofs.Steps.{step}
 use Rattle.stepping.proofs.Turns.{Turns}
 use Rattle.stepping.proofs.stepped.Given as goal
 
-abbrev pub invariant-loop-i : goal.invariant-loop-i
-invariant-loop-i l = Turns step l.initial.us l.initial.ss l.n l.us l.ss l.i
-
-abbrev pub decreases-loop-i : goal.decreases-loop-i
-decreases-loop-i l = l.n - l.i
+abbrev pub invariant-loop-at : goal.invariant-loop-at
+invariant-loop-at l = Turns step l.initial.us l.initial.ss l.n l.us l.ss l.at

@@ -5,7 +5,6 @@ use Rattle.model.specs.Units.{with_busy}
 use Rattle.model.specs.Write.{put_back, retry}
 use Rattle.registers.specs.View.{claimed}
 use Rattle.registers.proofs.Owing.{claimed-some}
-use Rattle.op.specs.View.{view_maybe_text}
 use Rattle.stalls.specs.View.{view_trace, view_traces, view_log}
 use Rattle.bank.specs.View.{view_units}
 use Rattle.board.specs.View.{boards}
@@ -16,10 +15,10 @@ use Rattle.board.proofs.Knowing.{knows-kept, knows-modify, busy-knows}
 use Rattle.board.proofs.Board.retry.Goals as goal
 
 pub returns : goal.returns
-unfolding boards view_log view_traces view_trace view_maybe_text retry put_back claimed queue_places
+unfolding boards view_log view_traces view_trace retry put_back claimed queue_places
 returns c = let b = c.args.self in
     let ok = c.requires.board_ok in
-    let e = c.set_busy-us.ensures in
+    let e = c.set_busy.ensures in
     record {
       is =
           λ x. state-by
@@ -32,7 +31,7 @@ returns c = let b = c.args.self in
             claims = ok.claims;
             log = ok.log;
             offer = λ h. omega arith;
-            status = λ t. c.requires.len_bound;
+            status = c.requires.len_bound;
             gone = ok.gone;
             knows =
                 knows-kept b.claims.len b.units e

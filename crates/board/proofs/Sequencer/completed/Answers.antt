@@ -10,7 +10,8 @@ use Rattle.model.specs.Units.{clear, without_waits}
 use Rattle.model.specs.State.{marks}
 use Rattle.model.specs.Issue.{complete_at}
 use Rattle.registers.specs.View.{view_claims, claimed}
-use Rattle.op.specs.View.{view_maybe_text}
+use Rattle.op.specs.Chars.{view_text}
+use Rattle.std.specs.Prelude.{option_map}
 use Rattle.stalls.specs.View.{listed}
 use Rattle.stalls.specs.Promises.{Known}
 use Rattle.units.specs.View.{view_unit}
@@ -24,10 +25,10 @@ use Rattle.board.proofs.Knowing.{knows-kept, knows-map, knows-modify, clear-know
 use Rattle.board.proofs.Counting.{names_more, left-apart, left-more}
 use Rattle.board.proofs.Vacancy.{Empty, empty_left}
 use Rattle.board.proofs.Sequencer.completed.Goals as goal
-use Rattle.board.proofs.Sequencer.completed.Goals.{then-u, else-u, then-is_system, else-is_system}
+use Rattle.board.proofs.Sequencer.completed.Goals.{then-not-u, else-not-u, then-not-is_system, else-not-is_system}
 
-pub release_all-c-requires : goal.release_all-c-requires
-release_all-c-requires c = record { claims_ok = c.requires.board_ok.claims; n_bound = (at_ok (let here : Lent c.args.us.now c.args.ss.now c.args.n = record { size = c.requires.sized; ok = c.requires.board_ok.units } in here) c.requires.at_lt_n c.unit_at-u.ensures).operands.destinations }
+pub writes-requires : goal.writes-requires
+writes-requires c = (at_ok (let here : Lent c.args.us.now c.args.ss.now c.args.n = record { size = c.requires.sized; ok = c.requires.board_ok.units } in here) c.requires.at_lt_n c.unit_at-u.ensures).operands
 
 pub returns : goal.returns
 unfolding view_board view_unit complete_at claimed queue_places
@@ -40,7 +41,7 @@ returns c = let b = board_of c.args.self (units_of c.args.us.now c.args.ss.now c
     let lent : Lent c.args.us.now c.args.ss.now c.args.n = record { size = c.requires.sized; ok = ok.units } in
     let place = seen-get_or (at_place lent h seen) 80 in
     let e = c.completed.ensures.are in
-    let f = c.release_all-c.ensures in
+    let f = rw c.writes.ensures at c.release_all.ensures in
     let n = b.claims.len in
     let k = claims-kept ok.claims f (released-length at (view_claims b.claims) _) in
     record {
@@ -51,12 +52,12 @@ returns c = let b = board_of c.args.self (units_of c.args.us.now c.args.ss.now c
             state-by (e.is x.legend) refl (names-kept x b _ k)
             (f.is ∙ ap (λ u. release_all at (view_claims b.claims) u.destinations) (sym v))
             (ap₂ marks
-            (and-joined (elim c.if-u.branch [ then-u w ↦ inl (w.if-u.true, w.self-is) | else-u w ↦ inr (w.if-u.false, w.self-is) ])
+            (and-joined (elim c.if-not-u.branch [ then-not-u w ↦ inl (w.if-not-u.true, w.self-is) | else-not-u w ↦ inr (w.if-not-u.false, w.self-is) ])
             ∙ ap (λ u. not u.redirects && b.marks.branch) (sym v))
-            (and-joined (elim c.if-is_system.branch [ then-is_system w ↦ inl (w.if-is_system.true, w.self-is) | else-is_system w ↦ inr (w.if-is_system.false, w.self-is) ])
+            (and-joined (elim c.if-not-is_system.branch [ then-not-is_system w ↦ inl (w.if-not-is_system.true, w.self-is) | else-not-is_system w ↦ inr (w.if-not-is_system.false, w.self-is) ])
             ∙ ap (λ t. not t && b.marks.system) (c.is_system.ensures ∙ ap (λ u. is_system u.class) (sym v))))
             refl refl
-            (log-names x (view_maybe_text b.status) b.log (names-kept x b _ k));
+            (log-names x (option_map view_text b.status) b.log (names-kept x b _ k));
         ok =
             record {
               units = e.ok;

@@ -15,7 +15,7 @@ returns c = let b = board_of c.args.self (units_of c.args.us.now c.args.ss.now c
       is =
           λ x e. state-by refl refl refl refl refl refl
           (ap (λ i. front_of b.front.enabled b.front.halted b.front.faulted b.front.in_cycle i b.fetch_pc x.next x.next)
-          (c.may_fetch-invited.ensures x e))
+          (c.may_fetch-self.ensures x e))
           refl;
       ok =
           record {

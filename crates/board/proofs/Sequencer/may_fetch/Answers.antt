@@ -1,10 +1,6 @@
-use Prim.Native.Nat.{ℕ, ◌≤◌, ◌<◌}
-use mathlib.Core.Path.{◌≡◌, sym, ap, ◌∙◌}
-use mathlib.Core.Bool.{true, false, not}
+use Rattle.std.proofs.Common.{ℕ, ◌≤◌, ◌<◌, ◌≡◌, sym, ap, ◌∙◌, true, false, not, length, arith}
 use lib.Dec.{ltb}
-use lib.ListN.{length}
-use native.Mathlib.Omega.{arith}
-use borrow.Author.Tests.{lt-ltb, le-ltb}
+use borrow.Author.Tests.{lt-ltb, le-ltb, ne_eqb}
 use Rattle.laws.proofs.Tests.{and_no, and_yes, and-next, or_yes, or-next}
 use Rattle.laws.proofs.Slices.{empty-yes, empty-no}
 use Rattle.flight.proofs.Entries.{queue-length}
@@ -24,26 +20,26 @@ module _ {b : Board} (ok : BoardOk b) (x : Frame) {depth : ℕ} (e : x.machine.d
 filled : {b : Board} → BoardOk b → (x : Frame) → (b.queue.len ≡ 0 → ⊥) → 0 < length (view_queue x.legend b.queue)
 filled ok x n = omega (arith, queue-length ok.queue x.legend, n)
 
-pub returns-then-depth-queue : goal.returns-then-depth-queue
-unfolding view_board may_fetch
-returns-then-depth-queue c = λ x e. sym (and_no _ (full c.requires.board_ok x e c.if-depth-queue.true))
-
 pub returns-then-self : goal.returns-then-self
 unfolding view_board may_fetch
-returns-then-self c = λ x e. sym (and_yes (room c.requires.board_ok x e c.if-depth-queue.false) (or_yes _ c.if-self.true))
+returns-then-self c = λ x e. c.if-self.true ∙ sym (and_yes (room c.requires.board_ok x e c.if-self-depth.true) (or_yes _ c.if-self.true))
 
-pub returns-then-queue-eq0 : goal.returns-then-queue-eq0
+pub returns-then-self-eq0 : goal.returns-then-self-eq0
 unfolding view_board may_fetch idle
-returns-then-queue-eq0 c = λ x e.
+returns-then-self-eq0 c = λ x e.
     let l = queue-length c.requires.board_ok.queue x.legend in
     ap not (c.any_busy.ensures x.legend)
     ∙ sym
-    (and-next _ (room c.requires.board_ok x e c.if-depth-queue.false) ∙ or-next _ c.if-self.false ∙ and-next _ (empty-yes _ (l ∙ c.if-queue-eq0.true)))
+    (and-next _ (room c.requires.board_ok x e c.if-self-depth.true) ∙ or-next _ c.if-self.false ∙ and-next _ (empty-yes _ (l ∙ c.if-self-eq0.true)))
 
-pub returns-else-queue-eq0 : goal.returns-else-queue-eq0
+pub returns-else-self-eq0 : goal.returns-else-self-eq0
 unfolding view_board may_fetch idle
-returns-else-queue-eq0 c = λ x e.
-    let l = queue-length c.requires.board_ok.queue x.legend in
-    sym
-    (and-next _ (room c.requires.board_ok x e c.if-depth-queue.false) ∙ or-next _ c.if-self.false
-    ∙ and_no _ (empty-no _ (filled c.requires.board_ok x c.if-queue-eq0.false)))
+returns-else-self-eq0 c = λ x e.
+    ne_eqb _ 0 c.if-self-eq0.false
+    ∙ sym
+    (and-next _ (room c.requires.board_ok x e c.if-self-depth.true) ∙ or-next _ c.if-self.false
+    ∙ and_no _ (empty-no _ (filled c.requires.board_ok x c.if-self-eq0.false)))
+
+pub returns-else-self-depth : goal.returns-else-self-depth
+unfolding view_board may_fetch
+returns-else-self-depth c = λ x e. le-ltb _ _ c.if-self-depth.false ∙ sym (and_no _ (full c.requires.board_ok x e c.if-self-depth.false))

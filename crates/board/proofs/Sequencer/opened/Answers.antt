@@ -1,10 +1,10 @@
+use Rattle.std.specs.Prelude.{None}
 use mathlib.Core.Path.{refl, sym, subst, ap, ◌∙◌}
 use mathlib.Core.List.{map, map-map}
 use native.Mathlib.Omega.{arith}
 use Rattle.laws.specs.Lists.{All}
 use Rattle.model.specs.Units.{clear_hazard}
 use Rattle.model.specs.Write.{open_cycle}
-use Rattle.flight.specs.declared.MaybeHazard.TheVariants.{Nothing}
 use Rattle.flight.specs.declared.Queued.{Queued}
 use Rattle.flight.specs.View.{entries}
 use Rattle.flight.specs.Promises.{hazardous}
@@ -24,8 +24,8 @@ unfolding boards view_log open_cycle queue_places
 returns c = let b = board_of c.args.self (units_of c.args.us.now c.args.ss.now c.args.n) in
     let ok = c.requires.board_ok in
     let e = c.clear_hazards.ensures.are in
-    let f = c.clear_hazards-q.ensures in
-    let h = c.opened-l.ensures in
+    let f = c.clear_hazards-2.ensures in
+    let h = c.open.ensures in
     record {
       is = record {
         is = λ x. state-by (e.is x.legend) (f.is x.legend) refl refl refl refl refl (h.is (log_frame x b));
@@ -45,7 +45,7 @@ returns c = let b = board_of c.args.self (units_of c.args.us.now c.args.ss.now c
             };
         places = e.places;
         queue =
-            ap (map (λ (x : Queued). x.place)) f.entries ∙ map-map (λ (x : Queued). x.place) (hazardous Nothing) (entries b.queue);
+            ap (map (λ (x : Queued). x.place)) f.entries ∙ map-map (λ (x : Queued). x.place) (hazardous None) (entries b.queue);
         gone = refl;
         waits = h.waits;
         vacant = empty-map b.units clear_hazard clear_hazard-busy e b.offer.writing;

@@ -1,6 +1,6 @@
-use mathlib.Core.Path.{◌≡◌, refl, sym, subst, ap, ap₂, ◌∙◌}
+use mathlib.Core.Path.{◌≡◌, refl, sym, subst, ap, ◌∙◌}
 use mathlib.Core.Logic.{inl}
-use mathlib.Core.Option.{Option}
+use Rattle.std.specs.Prelude.{Option, None}
 use mathlib.Core.List.{[], ◌∷◌, ◌++◌, map}
 use Prim.Native.Nat.{ℕ}
 use native.Mathlib.Omega.{arith}
@@ -14,7 +14,6 @@ use Rattle.model.specs.Traces.{trace_of, redirect_to, FETCH, WRITE}
 use Rattle.model.specs.State.{log_of, count_flush}
 use Rattle.model.specs.Issue.{flushed_cell, flush, redirected}
 use Rattle.model.specs.Scoreboard.{clear_status}
-use Rattle.op.specs.View.{view_maybe_text, view_maybe_number}
 use Rattle.flight.specs.declared.Queued.{Queued}
 use Rattle.flight.specs.View.{view_queue}
 use Rattle.flight.proofs.Entries.{queue-length}
@@ -24,7 +23,7 @@ use Rattle.stalls.proofs.Logged.{listed-length}
 use Rattle.board.specs.declared.Board.{Board}
 use Rattle.board.specs.View.{known_names, log_frame, board_of, boards}
 use Rattle.board.specs.Promises.{queue_places, placing, Names, unit_places, with_frame_rows, Redirects}
-use Rattle.board.proofs.Parts.{state-by, frame-with, no-status, alike_self, looks-kept}
+use Rattle.board.proofs.Parts.{state-by, frame-with, alike_self, looks-kept}
 use Rattle.board.proofs.Counting.{dropped-apart}
 use Rattle.board.proofs.Sequencer.redirected.Goals as goal
 
@@ -36,26 +35,25 @@ unfolding names_register
 redirect-known n e = absurd (let z : ◌≡◌ {A = ℕ} 0 1 = cc in omega arith)
 
 pub returns-in-Some : goal.returns-in-Some
-unfolding boards view_log view_traces view_trace view_maybe_number redirected flush clear_status queue_places
+unfolding boards view_log view_traces view_trace redirected flush clear_status queue_places
 returns-in-Some c = λ us ok.
     let b = board_of c.args.self us in
-    let f = c.flushed-q.ensures in
-    let h = c.redirected-l.ensures in
+    let f = c.flush.ensures in
+    let h = c.redirect.ensures in
     let n = b.claims.len in
-    redirects-so (sym (ap view_maybe_number c.in-Some.is))
+    redirects-so (sym c.in-Some.is)
     (record {
       is =
           λ x.
           let q = view_queue x.legend b.queue in
           let rows = push_all (map flushed_cell q) x.rows in
           state-by refl (f.is x.legend) refl refl refl refl refl
-          (h.is (frame-with (with_frame_rows rows x) (known_names x b) (view_maybe_text c.none-status.result))
-          ∙ ap₂
-          (λ k m.
+          (h.is (frame-with (with_frame_rows rows x) (known_names x b) None)
+          ∙ ap
+          (λ k.
           log_of (count_flush k (view_stats b.log.stats))
-          (view_traces (log_frame x b) b.log.traces ++ trace_of BranchFlush WRITE FETCH (redirect_to c.in-Some.target) ∷ []) rows m)
-          (sym (queue-length ok.queue x.legend))
-          c.none-status.ensures);
+          (view_traces (log_frame x b) b.log.traces ++ trace_of BranchFlush WRITE FETCH (redirect_to c.in-Some.target) ∷ []) rows None)
+          (sym (queue-length ok.queue x.legend)));
       step =
           record {
             ok =
@@ -65,7 +63,7 @@ returns-in-Some c = λ us ok.
                   claims = ok.claims;
                   log = h.ok;
                   offer = ok.offer;
-                  status = no-status _ c.none-status.ensures;
+                  status = tt;
                   gone = ok.gone;
                   knows = ok.knows;
                   known =
@@ -95,14 +93,13 @@ returns-in-Some c = λ us ok.
     })
 
 pub returns-in_default : goal.returns-in_default
-unfolding boards view_log view_traces view_trace view_maybe_number redirected clear_status placing
+unfolding boards view_log view_traces view_trace redirected clear_status placing
 returns-in_default c = λ us ok.
     let b = board_of c.args.self us in
-    redirects-so (sym (ap view_maybe_number c.in_default.is))
+    redirects-so (sym c.in_default.is)
     (record {
       is =
-          λ x. state-by refl refl refl refl refl refl refl
-          (ap (λ m. log_of (view_stats b.log.stats) (view_traces (log_frame x b) b.log.traces) x.rows m) c.none-status.ensures);
+          λ x. refl;
       step =
           record {
             ok =
@@ -112,7 +109,7 @@ returns-in_default c = λ us ok.
                   claims = ok.claims;
                   log = ok.log;
                   offer = ok.offer;
-                  status = no-status _ c.none-status.ensures;
+                  status = tt;
                   gone = ok.gone;
                   knows = ok.knows;
                   known = ok.known;

@@ -1,7 +1,8 @@
 use mathlib.Core.Path.{refl, ap, ◌∙◌}
 use Rattle.model.specs.State.{count_retired, log_of}
 use Rattle.model.specs.Write.{retire}
-use Rattle.op.specs.View.{view_maybe_text}
+use Rattle.op.specs.Chars.{view_text}
+use Rattle.std.specs.Prelude.{option_map}
 use Rattle.stalls.specs.View.{view_traces, view_stats, view_log}
 use Rattle.board.specs.View.{log_frame, board_of, boards}
 use Rattle.board.specs.Promises.{queue_places}
@@ -15,8 +16,8 @@ returns c = λ us ok w k.
     record {
       is =
           λ x. state-by refl refl refl refl refl refl refl
-          (ap (λ a. log_of a (view_traces (log_frame x b) b.log.traces) x.rows (view_maybe_text b.status))
-          (c.count_retired-counted.ensures ∙ ap (λ t. count_retired t (view_stats b.log.stats)) (k x)));
+          (ap (λ a. log_of a (view_traces (log_frame x b) b.log.traces) x.rows (option_map view_text b.status))
+          (c.count_retired.ensures ∙ ap (λ t. count_retired t (view_stats b.log.stats)) (k x)));
       ok =
           record {
             units = ok.units;

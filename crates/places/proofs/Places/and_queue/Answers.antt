@@ -1,10 +1,18 @@
-use native.Mathlib.Omega.{arith}
-use Rattle.flight.proofs.Entries.{entry-ok}
-use Rattle.places.proofs.Marks.{queue_places-length, queue_places-next, marking-next, marking-last}
+use Rattle.std.proofs.Common.{arith, ap, length}
+use Rattle.flight.proofs.Entries.{entries-length}
+use Rattle.places.proofs.Marks.{entry_seen, entry_place, mark-there, queue_places-length, marking-next, marking-last}
 use Rattle.places.proofs.Places.and_queue.Goals as goal
 
-pub loop-i-preserved : goal.loop-i-preserved
-loop-i-preserved c = let ok = c.requires.queue_ok in marking-next c.loop-i.invariant (queue_places-next ok _ c.loop-i-test.true) (entry-ok ok _ {i = c.loop-i.i} (omega (arith, ok.few, c.loop-i-test.true))).place
+pub bounds-self-op : goal.bounds-self-op
+bounds-self-op c = mark-there (entry_place c.requires.queue_ok _ c.as_slice-op-items.ensures c.loop-op-test.true)
+
+pub loop-op-preserved : goal.loop-op-preserved
+loop-op-preserved c =
+    let ok = c.requires.queue_ok in
+    marking-next c.loop-op.invariant (entry_seen ok _ c.as_slice-op-items.ensures c.loop-op-test.true)
+    (entry_place ok _ c.as_slice-op-items.ensures c.loop-op-test.true)
 
 pub returns : goal.returns
-returns c = let ok = c.requires.queue_ok in marking-last c.loop-i.invariant (omega (arith, queue_places-length ok, c.loop-i-test.false))
+returns c =
+    let ok = c.requires.queue_ok in
+    marking-last c.loop-op.invariant (omega (arith, queue_places-length ok, ap length c.as_slice-op-items.ensures, entries-length ok, c.loop-op-test.false))

@@ -1,4 +1,4 @@
-use native.Mathlib.Omega.{arith}
+use Rattle.std.proofs.Common.{arith}
 use Rattle.places.proofs.Marks.{last-free}
 use Rattle.places.proofs.Places.first_free.Goals as goal
 

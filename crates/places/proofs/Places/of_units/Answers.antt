@@ -6,8 +6,8 @@ use Rattle.slots.proofs.Loops.{at_ok, at_place}
 use Rattle.places.proofs.Marks.{marked-none, mark-there, marking-next, marking-last}
 use Rattle.places.proofs.Places.of_units.Goals as goal
 
-pub bounds-places-at : goal.bounds-places-at
-bounds-places-at c = mark-there (at_ok c.requires c.loop-i-test.true c.unit_at-u.ensures).place
+pub bounds-places-u : goal.bounds-places-u
+bounds-places-u c = mark-there (at_ok c.requires c.loop-i-test.true c.unit_at-u.ensures).place
 
 pub loop-i-preserved : goal.loop-i-preserved
 loop-i-preserved c = let l = c.requires in
