@@ -1,8 +1,6 @@
 // The stages, each with its oldest occupant (SCOREBOARD_PHASES).
-ghost use Rattle.std.specs.Prelude.{◌≡◌, List};
-ghost use Rattle.laws.specs.Lists.{nth};
+ghost use Rattle.std.specs.Prelude.{◌≡◌, List, option_map, slice_get};
 ghost use Rattle.laws.specs.Texts.{Text};
-ghost use Rattle.capability.specs.Cases.{maybe_role};
 ghost use Rattle.model.specs.Config.{Machine};
 ghost use Rattle.model.specs.Views.{stage_roles, stage_view};
 ghost use Rattle.flight.specs.declared.pool.TextPool.{TextPool};
@@ -10,54 +8,47 @@ ghost use Rattle.flight.specs.View.{view_queue, QueueOk};
 ghost use Rattle.flight.specs.Pool.{legend, DecodedPoolOk};
 ghost use Rattle.bank.specs.View.{view_units, UnitsOk};
 ghost use Rattle.occupants.specs.View.{of_parts};
-ghost use Rattle.inspect.specs.View.{view_maybe_stage};
+ghost use Rattle.inspect.specs.View.{view_stage};
 
 use bank::Units;
-use capability::{MaybeRole, PipelineStageRole};
+use capability::PipelineStageRole;
 use flight::Queue;
 use flight::pool::DecodedPool;
-use occupants::MaybeSlot;
 use occupants::oldest::stage_op;
+use occupants::{PipelineSlotView, slot};
 
-#[derive(Drop)]
+#[derive(Clone, Copy)]
 pub struct PipelineStageView {
     pub role: PipelineStageRole,
-    pub slot: MaybeSlot,
+    pub slot: Option<PipelineSlotView>,
 }
 
-#[derive(Drop)]
-pub enum MaybeStage {
-    Some(PipelineStageView),
-    Nothing,
-}
-
-fn role_at(index: usize) -> MaybeRole
-    ensures { maybe_role result ≡ nth stage_roles index }
+fn role_at(index: usize) -> Option<PipelineStageRole>
+    ensures { result ≡ slice_get stage_roles index }
 {
     match index {
-        0 => MaybeRole::Some(PipelineStageRole::Fetch),
-        1 => MaybeRole::Some(PipelineStageRole::Issue),
-        2 => MaybeRole::Some(PipelineStageRole::Decode),
-        3 => MaybeRole::Some(PipelineStageRole::Execute),
-        4 => MaybeRole::Some(PipelineStageRole::Writeback),
-        _ => MaybeRole::Nothing,
+        0 => Some(PipelineStageRole::Fetch),
+        1 => Some(PipelineStageRole::Issue),
+        2 => Some(PipelineStageRole::Decode),
+        3 => Some(PipelineStageRole::Execute),
+        4 => Some(PipelineStageRole::Writeback),
+        _ => None,
     }
 }
 
 // model: Views.stage_view
-pub fn stage_view(units: Units, queue: Queue, decoded: DecodedPool, index: usize) -> MaybeStage
-    requires units_ok { UnitsOk units }
-    requires queue_ok { QueueOk queue }
-    requires decoded_pool_ok { DecodedPoolOk decoded }
-    ensures { (m : Machine) (ts : TextPool) (ns : List Text) → view_maybe_stage result ≡ stage_view (of_parts m (view_units (legend decoded ts ns) units) (view_queue (legend decoded ts ns) queue)) index }
+pub fn stage_view(
+    units: &Units,
+    queue: &Queue,
+    decoded: &DecodedPool,
+    index: usize,
+) -> Option<PipelineStageView>
+    requires units_ok { UnitsOk units.now }
+    requires queue_ok { QueueOk queue.now }
+    requires decoded_pool_ok { DecodedPoolOk decoded.now }
+    ensures { (m : Machine) (ts : TextPool) (ns : List Text) → option_map view_stage result ≡ stage_view (of_parts m (view_units (legend decoded.now ts ns) units.now) (view_queue (legend decoded.now ts ns) queue.now)) index }
 {
-    let found = role_at(index);
-    let op = stage_op(units, queue, index);
-    match found {
-        MaybeRole::Some(role) => {
-            let slot = op.slot(decoded);
-            MaybeStage::Some(PipelineStageView { role, slot })
-        }
-        MaybeRole::Nothing => MaybeStage::Nothing,
-    }
+    let role = role_at(index)?;
+    let slot = slot(stage_op(units, queue, index), decoded);
+    Some(PipelineStageView { role, slot })
 }

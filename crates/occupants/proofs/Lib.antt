@@ -1,6 +1,4 @@
-pub mod Backward
-pub mod Held
-pub mod Walks
-pub mod Flight
+pub mod Least
+pub mod Seen
 pub mod Stages
 pub mod Questions

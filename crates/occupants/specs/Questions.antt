@@ -1,14 +1,12 @@
 -- What resume_pc and in_flight_before say of the operations in flight.
-use Rattle.std.specs.Prelude.{ℕ, ◌≤◌, ◌<◌, ◌≡◌, true, [], ◌↔◌}
-use Rattle.std.proofs.Math.Option.{some}
-use Rattle.laws.specs.Lists.{nth}
+use Rattle.std.specs.Prelude.{ℕ, ◌≤◌, ◌<◌, ◌≡◌, true, [], ◌↔◌, Some, slice_get}
 use Rattle.model.specs.Op.{Op}
 use Rattle.model.specs.State.{State}
 use Rattle.model.specs.Scoreboard.{in_flight, resume_pc, in_flight_before}
 
 -- o is in flight, at place i of those in units and then in the queue.
 abbrev pub InFlight : State → ℕ → Op → Type 0
-InFlight s i o = nth (in_flight s) i ≡ some o
+InFlight s i o = slice_get (in_flight s) i ≡ Some o
 
 -- No operation in flight has a smaller number.
 abbrev pub Oldest : State → Op → Type 0

@@ -2,9 +2,9 @@
 #![tactic(auto)]
 
 use bank::Units;
-use capability::PipelineInstructionClass;
+use capability::{PipelineHazardKind, PipelineInstructionClass};
 use flight::pool::DecodedPool;
-use flight::{MaybeHazard, Queue, Queued};
+use flight::{Queue, Queued};
 use units::Unit;
 
 // The oldest unit of those that pass, and the occupant of a stage.
@@ -12,10 +12,8 @@ pub mod oldest;
 // The oldest operation in flight, and whether one is older than a number.
 pub mod in_flight;
 
-ghost use Rattle.std.specs.Prelude.{◌≡◌, List, ℕ, ◌<◌};
-ghost use Rattle.std.proofs.Math.Option.{none};
-ghost use Rattle.laws.specs.Optional.{when_some, omap};
-ghost use Rattle.laws.specs.Lists.{nth};
+ghost use Rattle.std.specs.Prelude.{◌≡◌, List, ℕ, ◌<◌, option_map, slice_get};
+ghost use Rattle.laws.specs.Optional.{when_some};
 ghost use Rattle.laws.specs.Means.{MeansFor};
 ghost use Rattle.laws.specs.Texts.{Text};
 ghost use Rattle.model.specs.Units.{unit_op, unit_at};
@@ -26,168 +24,115 @@ ghost use Rattle.flight.specs.View.{view_queued, view_queue, QueuedOk, QueueOk};
 ghost use Rattle.flight.specs.Pool.{legend, DecodedPoolOk};
 ghost use Rattle.units.specs.View.{view_unit, UnitOk};
 ghost use Rattle.bank.specs.View.{view_units, UnitsOk};
-ghost use Rattle.occupants.specs.View.{view_slot, view_maybe_slot, view_maybe_op, view_maybe_unit, MaybeOpOk, MaybeUnitOk};
+ghost use Rattle.occupants.specs.View.{view_slot, view_maybe_op, view_maybe_unit, MaybeOpOk, MaybeUnitOk};
 
 // PipelineSlotView. The scoreboard never sets the three flags that follow the class.
-#[derive(Drop)]
+#[derive(Clone, Copy)]
 pub struct PipelineSlotView {
     pub address: u64,
     pub class: PipelineInstructionClass,
     pub bubble: bool,
     pub speculative: bool,
     pub predicted_taken: bool,
-    pub hazard: MaybeHazard,
+    pub hazard: Option<PipelineHazardKind>,
     pub atomic: bool,
     pub cycles_remaining: u8,
 }
 
-#[derive(Drop)]
-pub enum MaybeSlot {
-    Some(PipelineSlotView),
-    Nothing,
-}
-
-#[derive(Drop)]
-pub struct MaybeOp {
-    pub some: bool,
-    pub op: Queued,
-}
-
-#[derive(Clone, Copy)]
-pub struct MaybeUnit {
-    pub some: bool,
-    pub unit: Unit,
-}
-
-impl MaybeOp {
-    pub fn none() -> MaybeOp
-        ensures { MeansFor view_maybe_op MaybeOpOk result (λ g. none) }
-    {
-        let op = Queued::none();
-        MaybeOp { some: false, op }
-    }
-
-    // model: omap slot_view
-    pub fn slot(self, decoded: DecodedPool) -> MaybeSlot
-        requires { DecodedPoolOk decoded }
-        ensures { (ts : TextPool) (ns : List Text) → view_maybe_slot result ≡ omap slot_view (view_maybe_op (legend decoded ts ns) self) }
-    {
-        if !self.some {
-            return MaybeSlot::Nothing;
-        }
-        let op = self.op;
-        MaybeSlot::Some(slot_view(op, decoded))
-    }
-}
-
-impl MaybeUnit {
-    pub fn none() -> MaybeUnit
-        ensures { MeansFor view_maybe_unit MaybeUnitOk result (λ g. none) }
-    {
-        let unit = Unit::idle(0, 0);
-        MaybeUnit { some: false, unit }
-    }
-
-    // model: omap unit_op
-    pub fn held(self) -> MaybeOp
-        requires { MaybeUnitOk self }
-        ensures { MeansFor view_maybe_op MaybeOpOk result (λ g. omap unit_op (view_maybe_unit g self)) }
-    {
-        let unit = self.unit;
-        let op = op_of(unit);
-        MaybeOp {
-            some: self.some,
-            op,
-        }
-    }
-}
-
 // The operation of a unit.
 // model: Units.unit_op
-pub fn op_of(u: Unit) -> Queued
-    requires { UnitOk u }
-    ensures { MeansFor view_queued QueuedOk result (λ g. unit_op (view_unit g u)) }
+#[tactic(auto, unfolding(flight::specs::View::op_with, flight::specs::View::view_queued, units::specs::View::view_unit, model::specs::Units::unit_op))]
+pub fn op_of(u: &Unit) -> Queued
+    requires { UnitOk u.now }
+    ensures { MeansFor view_queued QueuedOk result (λ g. unit_op (view_unit g u.now)) }
 {
-    let operands = u.operands;
-    let class = u.class;
-    let progress = u.progress;
-    let hazard = progress.hazard;
     Queued {
         seq: u.seq,
-        operands,
-        class,
+        operands: u.operands,
+        class: u.class,
         branch: u.redirects,
-        hazard,
-        latency: progress.cycles_left,
+        hazard: u.progress.hazard,
+        latency: u.progress.cycles_left,
         place: u.place,
     }
 }
 
+// Of a unit that may not be there.
+pub fn held(unit: Option<Unit>) -> Option<Queued>
+    requires { MaybeUnitOk unit }
+    ensures { MeansFor view_maybe_op MaybeOpOk result (λ g. option_map unit_op (view_maybe_unit g unit)) }
+{
+    unit.map(|u| op_of(&u))
+}
+
 // model: Views.slot_view
-pub fn slot_view(op: Queued, decoded: DecodedPool) -> PipelineSlotView
-    requires { DecodedPoolOk decoded }
-    ensures { (ts : TextPool) (ns : List Text) → view_slot result ≡ slot_view (view_queued (legend decoded ts ns) op) }
+#[tactic(auto, unfolding(flight::specs::Pool::decoded_at, flight::specs::Pool::held_at, flight::specs::View::carried_at, flight::specs::View::op_with, flight::specs::View::view_queued, crate::specs::View::view_slot, model::specs::Views::slot_view))]
+pub fn slot_view(op: &Queued, decoded: &DecodedPool) -> PipelineSlotView
+    requires { DecodedPoolOk decoded.now }
+    ensures { (ts : TextPool) (ns : List Text) → view_slot result ≡ slot_view (view_queued (legend decoded.now ts ns) op.now) }
 {
     let d = decoded.at(op.place);
-    let class = op.class;
-    let hazard = op.hazard;
     PipelineSlotView {
         address: d.address,
-        class,
+        class: op.class,
         bubble: false,
         speculative: false,
         predicted_taken: false,
-        hazard,
+        hazard: op.hazard,
         atomic: d.atomic,
         cycles_remaining: op.latency,
     }
 }
 
-// model: nth units
-pub fn unit_at(units: Units, index: usize) -> MaybeUnit
-    requires { UnitsOk units }
-    ensures { MeansFor view_maybe_unit MaybeUnitOk result (λ g. nth (view_units g units) index) }
+// Of an operation that may not be there.
+pub fn slot(op: Option<Queued>, decoded: &DecodedPool) -> Option<PipelineSlotView>
+    requires { DecodedPoolOk decoded.now }
+    ensures { (ts : TextPool) (ns : List Text) → option_map view_slot result ≡ option_map slot_view (view_maybe_op (legend decoded.now ts ns) op) }
 {
-    if units.len <= index {
-        return MaybeUnit::none();
-    }
-    let unit = units.items[index];
-    MaybeUnit { some: true, unit }
+    op.map(|op| slot_view(&op, decoded))
+}
+
+// model: nth units
+pub fn unit_at(units: &Units, index: usize) -> Option<Unit>
+    requires { UnitsOk units.now }
+    ensures { MeansFor view_maybe_unit MaybeUnitOk result (λ g. slice_get (view_units g units.now) index) }
+{
+    units.as_slice().get(index).copied()
 }
 
 // model: nth queue
-pub fn queued_op(queue: Queue, index: usize) -> MaybeOp
-    requires { QueueOk queue }
-    ensures { MeansFor view_maybe_op MaybeOpOk result (λ g. nth (view_queue g queue) index) }
+pub fn queued_op(queue: &Queue, index: usize) -> Option<Queued>
+    requires { QueueOk queue.now }
+    ensures { MeansFor view_maybe_op MaybeOpOk result (λ g. slice_get (view_queue g queue.now) index) }
 {
-    if queue.len <= index {
-        return MaybeOp::none();
-    }
-    let op = queue.items[index];
-    MaybeOp { some: true, op }
+    queue.as_slice().get(index).copied()
 }
 
 // The operation in a station: none while it is on offer.
 // model: Views.station_op
-pub fn station_op(units: Units, index: usize) -> MaybeOp
-    requires { UnitsOk units }
-    ensures { MeansFor view_maybe_op MaybeOpOk result (λ g. when_some (nth (view_units g units) index) none station_op) }
+pub fn station_op(units: &Units, index: usize) -> Option<Queued>
+    requires { UnitsOk units.now }
+    ensures { MeansFor view_maybe_op MaybeOpOk result (λ g. when_some (slice_get (view_units g units.now) index) None station_op) }
 {
-    let m = unit_at(units, index);
-    let u = m.unit;
-    if m.some && u.busy {
-        return m.held();
-    }
-    MaybeOp::none()
+    shown_op(&unit_at(units, index)?)
+}
+
+// The operation that a unit shows: none while it is on offer.
+// model: Views.station_op
+#[tactic(auto, unfolding(units::specs::View::view_unit, model::specs::Views::station_op, model::specs::Units::unit_op))]
+pub fn shown_op(u: &Unit) -> Option<Queued>
+    requires { UnitOk u.now }
+    ensures { MeansFor view_maybe_op MaybeOpOk result (λ g. station_op (view_unit g u.now)) }
+{
+    if u.busy { Some(op_of(u)) } else { None }
 }
 
 // The operation on offer, of the unit `writing`; 64 for none.
 // model: Write.offered_op
-pub fn offered_op(units: Units, writing: usize) -> MaybeOp
-    requires units_ok { UnitsOk units }
-    requires writing_lt_len { writing < 64 → writing < units.len }
-    ensures { MeansFor view_maybe_op MaybeOpOk result (λ g. omap (λ (i : ℕ). (unit_at (view_units g units) i).op) (index_of writing)) }
+pub fn offered_op(units: &Units, writing: usize) -> Option<Queued>
+    requires units_ok { UnitsOk units.now }
+    requires writing_lt_len { writing < 64 → writing < units.now.len }
+    ensures { MeansFor view_maybe_op MaybeOpOk result (λ g. option_map (λ (i : ℕ). (unit_at (view_units g units.now) i).op) (index_of writing)) }
 {
-    let m = unit_at(units, writing);
-    m.held()
+    held(unit_at(units, writing))
 }

@@ -1,18 +1,14 @@
 -- The word and the text of a wait.
-use Prim.Native.Nat.{ℕ, ◌≤◌, ◌<◌}
-use mathlib.Core.Path.{◌≡◌, refl, sym, ap, ap₂, ◌∙◌}
+use Prim.Native.Nat.{ℕ, ◌<◌}
+use mathlib.Core.Path.{◌≡◌, refl, sym, ap, ap₂, subst, ◌∙◌}
 use mathlib.Core.Bool.{true}
-use mathlib.Core.Option.{none, some}
+use Rattle.std.specs.Prelude.{Option, None, Some, IfSome, option_map, slice_get}
 use mathlib.Core.List.{List, [], ◌∷◌}
-use native.Mathlib.Omega.{arith}
-use lib.ListN.{get_or, take}
+use lib.ListN.{take}
 use types.Run.{OneOf, miss}
 use denote.Enum.Declared.{tag_of}
-use Rattle.laws.specs.Optional.{omap}
-use Rattle.laws.specs.Lists.{All, nth}
+use Rattle.laws.specs.Lists.{All}
 use Rattle.laws.specs.Texts.{Text}
-use Rattle.laws.proofs.Tests.{omap-none}
-use Rattle.laws.proofs.Slices.{nth_end, All-seen}
 use Rattle.model.specs.Config.{UnitSpec}
 use Rattle.model.specs.Op.{first_word}
 use Rattle.model.specs.Registers.{name_of}
@@ -24,26 +20,16 @@ use Rattle.flight.specs.declared.pool.DecodedPool.{DecodedPool}
 use Rattle.flight.specs.declared.pool.TextPool.{TextPool}
 use Rattle.flight.specs.View.{carried_at}
 use Rattle.timeline.specs.declared.WaitForm.{WaitForm}
-use Rattle.timeline.specs.declared.WaitForm.TheVariants.{
-  Overwrites,
-  MemoryOrder,
-  Drains,
-  WaitsFor,
-  WaitsForOlder,
-  BehindBranch,
-  BehindSystem,
-  StillWrites,
-  AllBusy,
-  RedirectTo,
-}
+use Rattle.timeline.specs.declared.WaitForm.TheVariants.{Overwrites, MemoryOrder, Drains, WaitsFor, WaitsForOlder, BehindBranch, BehindSystem, StillWrites, AllBusy, RedirectTo}
 use Rattle.timeline.specs.Waits.{detail_of}
 use Rattle.timeline.specs.contracts.WaitForm as form
 use Rattle.stalls.specs.declared.Trace.{Trace}
 use Rattle.stalls.specs.declared.TraceList.{TraceList}
-use Rattle.stalls.specs.View.{Frame, number_word, word_at, view_trace, listed, view_traces, TraceListOk}
+use Rattle.stalls.specs.View.{Frame, number_word, word_at, view_trace, listed, view_traces}
 use Rattle.stalls.specs.Promises.{names_register, Known}
-use Rattle.stalls.proofs.Logged.{listed_next, traces-length}
-use Rattle.words.proofs.Shown.{nth-there}
+use denote.Ref.{Bor}
+use Rattle.laws.proofs.Maps.{nth-map}
+use Rattle.occupants.proofs.Seen.{All-get}
 use Rattle.requests.specs.View.{wait_frame}
 use Rattle.requests.proofs.Known.{name-first}
 
@@ -71,8 +57,8 @@ module _ (ks : List UnitSpec) (ns : List Text) (number : ℕ) where
   word-known Overwrites h m o to = ap (λ r. overwrites m r o) (sym (name-first ns (h refl)))
   word-known MemoryOrder h m o to = refl
   word-known Drains h m o to = refl
-  word-known WaitsFor h m o to = ap (λ r. waits_for m r (some o)) (sym (name-first ns (h refl)))
-  word-known WaitsForOlder h m o to = ap (λ r. waits_for m r none) (sym (name-first ns (h refl)))
+  word-known WaitsFor h m o to = ap (λ r. waits_for m r (Some o)) (sym (name-first ns (h refl)))
+  word-known WaitsForOlder h m o to = ap (λ r. waits_for m r None) (sym (name-first ns (h refl)))
   word-known BehindBranch h m o to = refl
   word-known BehindSystem h m o to = refl
   word-known StillWrites h m o to = ap (still_writes m) (sym (name-first ns (h refl)))
@@ -100,18 +86,21 @@ module _ (ds : DecodedPool) (ts : TextPool) (t : RegisterTable) (m : Machine) (n
       ∙ ap (λ r. detail_of x.form (word_at frame.legend x.mine) r (word_at frame.legend x.other) to) f
       ∙ word-known frame.kinds (view_held t) x.number x.form k (word_at frame.legend x.mine) (word_at frame.legend x.other) to
 
-  module _ {l : TraceList} (ok : TraceListOk l) {i : ℕ} where
-    pub wait-text : (d : Trace) → i < l.len → All (Known n) (listed l) → {mine word other : Text}
-        → let x = get_or l.items i d in
-        mine ≡ (carried_at frame.legend x.mine).disassembly
-        → word ≡ number_word x.form frame.kinds (view_held t) x.number
-        → other ≡ (carried_at frame.legend x.other).disassembly
-        → some (render (detail_of x.form (first_word mine) word (first_word other) l.target)) ≡ omap text_of (nth (view_traces frame l) i)
-    unfolding view_traces listed
-    wait-text d h a e f g =
-        let x = get_or l.items i d in
-        ap (λ y. some (render y)) (detail-known x l.target (All-seen (Known n) (listed l) a (listed_next ok d h)) e f g)
-        ∙ ap (omap text_of) (nth-there (view_trace frame l.target) l.items d (omega (arith, ok.few, ok.size)) h)
+  module _ (l : TraceList) (i : ℕ) {r : Option (Bor Trace)} (e : option_map (λ x. x.now) r ≡ slice_get (listed l) i) where
+    listed-get : {o : Option (Bor Trace)} → r ≡ o → slice_get (view_traces frame l) i ≡ option_map (view_trace frame l.target) (option_map (λ x. x.now) o)
+    unfolding view_traces
+    listed-get h =
+        nth-map (view_trace frame l.target) (listed l) i ∙ ap (option_map (view_trace frame l.target)) (sym e)
+        ∙ ap (λ o. option_map (view_trace frame l.target) (option_map (λ x. x.now) o)) h
 
-    pub wait-past : l.len ≤ i → omap text_of (nth (view_traces frame l) i) ≡ none
-    wait-past h = omap-none text_of (nth_end (view_traces frame l) (omega (arith, traces-length ok frame)))
+    pub wait-text : (x : Bor Trace) → r ≡ Some x → All (Known n) (listed l) → {mine word other : Text}
+        → mine ≡ (carried_at frame.legend x.now.mine).disassembly
+        → word ≡ number_word x.now.form frame.kinds (view_held t) x.now.number
+        → other ≡ (carried_at frame.legend x.now.other).disassembly
+        → Some (render (detail_of x.now.form (first_word mine) word (first_word other) l.target)) ≡ option_map text_of (slice_get (view_traces frame l) i)
+    wait-text x h a f g k =
+        let known = subst (λ o. IfSome o (Known n)) (sym e ∙ ap (option_map (λ y. y.now)) h) (All-get (Known n) (listed l) i a) in
+        ap (λ y. Some (render y)) (detail-known x.now l.target known f g k) ∙ sym (ap (option_map text_of) (listed-get h))
+
+    pub wait-past : r ≡ None → option_map text_of (slice_get (view_traces frame l) i) ≡ None
+    wait-past h = ap (option_map text_of) (listed-get h)

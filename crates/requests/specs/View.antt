@@ -1,20 +1,6 @@
 -- What a text request asks for, and what stands behind the numbers of waits.
-use Rattle.std.specs.Prelude.{ℕ, [], take}
-use Rattle.std.proofs.Math.Option.{none}
-use Rattle.model.specs.Requests.{
-  Place as OpPlace,
-  in_queue,
-  in_station,
-  in_stage,
-  in_unit,
-  on_offer,
-  Field as OpField,
-  disassembly,
-  destination,
-  fault,
-  source,
-  write,
-}
+use Rattle.std.specs.Prelude.{ℕ, [], take, None}
+use Rattle.model.specs.Requests.{Place as OpPlace, in_queue, in_station, in_stage, in_unit, on_offer, Field as OpField, disassembly, destination, fault, source, write}
 use Rattle.config.specs.declared.Machine.{Machine}
 use Rattle.config.specs.View.{view_machine}
 use Rattle.registers.specs.declared.RegisterTable.{RegisterTable}
@@ -36,7 +22,7 @@ wait_frame ds ts t m n =
       kinds = (view_machine m).specs;
       names = take n (view_held t);
       rows = [];
-      status = none;
+      status = None;
     }
 
 unfoldable pub view_place : Place → OpPlace

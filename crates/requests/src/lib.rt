@@ -3,31 +3,30 @@
 #![tactic(auto)]
 
 use bank::Units;
+use capability::Refusal;
 use config::{KindName, Machine};
 use flight::pool::TextPool;
 use flight::{Queue, Queued};
 use occupants::oldest::{of_kind, stage_op};
-use occupants::{MaybeOp, offered_op, queued_op, station_op};
+use occupants::{held, offered_op, queued_op, station_op};
 use op::Name;
 use registers::RegisterTable;
 use stalls::TraceList;
 use timeline::WaitForm;
-use traces::texts::Written;
 
 // The label of a station, and the names of claimed registers and of operands.
 pub mod named;
 
-ghost use Rattle.std.proofs.Math.Option.{none};
-ghost use Rattle.std.specs.Prelude.{ℕ, ◌<◌, ◌≤◌};
-ghost use Rattle.laws.specs.Optional.{when_some, omap};
-ghost use Rattle.laws.specs.Lists.{All, nth};
+ghost use Rattle.std.specs.Prelude.{ℕ, ◌<◌, ◌≤◌, option_map, slice_get};
+ghost use Rattle.laws.specs.Optional.{when_some};
+ghost use Rattle.laws.specs.Lists.{All};
 ghost use Rattle.laws.specs.Means.{Means, MeansFor};
 ghost use Rattle.model.specs.Config.{Machine as ModelMachine};
 ghost use Rattle.model.specs.Op.{Op};
 ghost use Rattle.model.specs.Traces.{Trace as ModelTrace, render};
 ghost use Rattle.model.specs.Requests.{op_at, field};
-ghost use Rattle.op.specs.View.{view_name};
-ghost use Rattle.config.specs.View.{view_kind_name, view_machine};
+ghost use Rattle.op.specs.Chars.{view_text};
+ghost use Rattle.config.specs.View.{view_machine};
 ghost use Rattle.config.specs.Kept.{MachineOk};
 ghost use Rattle.registers.specs.View.{view_held, NameOk, TableOk};
 ghost use Rattle.flight.specs.declared.pool.DecodedPool.{DecodedPool};
@@ -51,7 +50,7 @@ pub enum Place {
 }
 
 // A text of an operation; sources and writes by their place in the list.
-#[derive(Drop)]
+#[derive(Clone, Copy)]
 pub enum Field {
     Disassembly,
     Destination,
@@ -61,125 +60,111 @@ pub enum Field {
 }
 
 // model: Requests.op_at
-pub fn op_at(units: Units, queue: Queue, writing: usize, place: Place) -> MaybeOp
-    requires units_ok { UnitsOk units }
-    requires queue_ok { QueueOk queue }
-    requires writing_lt_len { writing < 64 → writing < units.len }
-    ensures { (m : ModelMachine) → MeansFor view_maybe_op MaybeOpOk result (λ g. op_at (with_offered writing m (view_units g units) (view_queue g queue)) (view_place place)) }
+pub fn op_at(units: &Units, queue: &Queue, writing: usize, place: Place) -> Option<Queued>
+    requires units_ok { UnitsOk units.now }
+    requires queue_ok { QueueOk queue.now }
+    requires writing_lt_len { writing < 64 → writing < units.now.len }
+    ensures { (m : ModelMachine) → MeansFor view_maybe_op MaybeOpOk result (λ g. op_at (with_offered writing m (view_units g units.now) (view_queue g queue.now)) (view_place place)) }
 {
     match place {
         Place::Queue(i) => queued_op(queue, i),
         Place::Station(i) => station_op(units, i),
         Place::Stage(i) => stage_op(units, queue, i),
-        Place::Kind(i) => of_kind(units, i).held(),
+        Place::Kind(i) => held(of_kind(units, i)),
         Place::Offer => offered_op(units, writing),
     }
 }
 
 // model: Requests.field
 fn write_op_field(
-    op: Queued,
-    texts: TextPool,
-    table: RegisterTable,
+    op: &Queued,
+    texts: &TextPool,
+    table: &RegisterTable,
     wanted: Field,
     out: &mut [u8],
-) -> Written
-    requires queued_ok { QueuedOk op }
-    requires text_pool_ok { TextPoolOk texts }
-    requires table_ok { TableOk table }
-    ensures { (ds : DecodedPool) → Wrote (field (view_queued (legend ds texts (view_held table)) op).info (view_field wanted)) out.old out.new result }
+) -> Result<Option<usize>, Refusal>
+    requires queued_ok { QueuedOk op.now }
+    requires text_pool_ok { TextPoolOk texts.now }
+    requires table_ok { TableOk table.now }
+    ensures { (ds : DecodedPool) → Wrote (field (view_queued (legend ds texts.now (view_held table.now)) op.now).info (view_field wanted)) out.old out.new result }
 {
-    let place = op.place;
-    let operands = op.operands;
-    let sources = operands.sources;
-    let destinations = operands.destinations;
     match wanted {
-        Field::Disassembly => words::write_bytes(words::text_at(texts, place), out),
-        Field::Destination => words::write_maybe_name(words::destination_at(texts, place), out),
-        Field::Fault => words::write_maybe_text(words::fault_at(texts, place), out),
-        Field::Source(i) => words::write_nth_source(table, sources, operands.sources_len, i, out),
-        Field::Write(i) => words::write_nth_write(
-            table,
-            destinations,
-            operands.destinations_len,
-            i,
-            out,
-        ),
+        Field::Disassembly => words::write_bytes(&words::text_at(texts, op.place), out),
+        Field::Destination => words::write_maybe_text(&words::destination_at(texts, op.place), out),
+        Field::Fault => words::write_maybe_text(&words::fault_at(texts, op.place), out),
+        Field::Source(i) => words::write_nth(table, op.operands.reads(), i, out),
+        Field::Write(i) => words::write_nth(table, op.operands.writes(), i, out),
     }
 }
 
 // Of an operation that may not be there.
 pub fn write_field(
-    m: MaybeOp,
-    texts: TextPool,
-    table: RegisterTable,
+    op: &Option<Queued>,
+    texts: &TextPool,
+    table: &RegisterTable,
     wanted: Field,
     out: &mut [u8],
-) -> Written
-    requires maybe_op_ok { MaybeOpOk m }
-    requires text_pool_ok { TextPoolOk texts }
-    requires table_ok { TableOk table }
-    ensures { (ds : DecodedPool) → Wrote (when_some (view_maybe_op (legend ds texts (view_held table)) m) none (λ (o : Op). field o.info (view_field wanted))) out.old out.new result }
+) -> Result<Option<usize>, Refusal>
+    requires maybe_op_ok { MaybeOpOk op.now }
+    requires text_pool_ok { TextPoolOk texts.now }
+    requires table_ok { TableOk table.now }
+    ensures { (ds : DecodedPool) → Wrote (when_some (view_maybe_op (legend ds texts.now (view_held table.now)) op.now) None (λ (o : Op). field o.info (view_field wanted))) out.old out.new result }
 {
-    if !m.some {
-        return Written::Nothing;
+    match op {
+        Some(op) => write_op_field(op, texts, table, wanted, out),
+        None => Ok(None),
     }
-    let op = m.op;
-    write_op_field(op, texts, table, wanted, out)
 }
 
 // A kind's name as a name.
-fn as_name(kind: KindName) -> Name
-    requires { kind.len ≤ 8 }
-    ensures { Means view_name NameOk result (view_kind_name kind) }
+fn as_name(kind: &KindName) -> Name
+    requires { kind.now.len ≤ 8 }
+    ensures { Means view_text NameOk result (view_text kind.now) }
 {
-    let bytes = kind.bytes;
-    let n = kind.len as usize;
-    Name::from_slice(&bytes[..n])
+    Name::from_slice(&kind.bytes[..kind.len as usize])
 }
 
 // The word that the number of a wait stands for: a kind's name for AllBusy, else a register's.
-fn number_word(form: WaitForm, number: u8, machine: Machine, table: RegisterTable) -> Name
-    requires machine_ok { MachineOk machine }
-    requires table_ok { TableOk table }
-    ensures { Means view_name NameOk result (number_word form (view_machine machine).specs (view_held table) number) }
+fn number_word(form: WaitForm, number: u8, machine: &Machine, table: &RegisterTable) -> Name
+    requires machine_ok { MachineOk machine.now }
+    requires table_ok { TableOk table.now }
+    ensures { Means view_text NameOk result (number_word form (view_machine machine.now).specs (view_held table.now) number) }
 {
     let at = number as usize;
     if let WaitForm::AllBusy = form {
-        let kind = words::spec_name(machine, at);
-        return as_name(kind);
+        return as_name(&words::spec_name(machine, at));
     }
     table.name(at)
 }
 
 // The text of a wait. Its register, where the text has one, is known: one of the first n.
+#[tactic(auto, using(words::proofs::Shown::name_fits))]
 pub fn write_detail(
-    list: TraceList,
-    texts: TextPool,
-    table: RegisterTable,
-    machine: Machine,
+    list: &TraceList,
+    texts: &TextPool,
+    table: &RegisterTable,
+    machine: &Machine,
     index: usize,
     out: &mut [u8],
-) -> Written
-    requires trace_list_ok { TraceListOk list }
-    requires text_pool_ok { TextPoolOk texts }
-    requires table_ok { TableOk table }
-    requires machine_ok { MachineOk machine }
-    ensures { (ds : DecodedPool) (n : ℕ) → All (Known n) (listed list) → Wrote (omap (λ (t : ModelTrace). render t.detail) (nth (view_traces (wait_frame ds texts table machine n) list) index)) out.old out.new result }
+) -> Result<Option<usize>, Refusal>
+    requires trace_list_ok { TraceListOk list.now }
+    requires text_pool_ok { TextPoolOk texts.now }
+    requires table_ok { TableOk table.now }
+    requires machine_ok { MachineOk machine.now }
+    ensures { (ds : DecodedPool) (n : ℕ) → All (Known n) (listed list.now) → Wrote (option_map (λ (t : ModelTrace). render t.detail) (slice_get (view_traces (wait_frame ds texts.now table.now machine.now n) list.now) index)) out.old out.new result }
 {
-    if list.len <= index {
-        return Written::Nothing;
-    }
-    let t = list.items[index];
-    let form = t.form;
+    let Some(t) = list.as_slice().get(index) else {
+        return Ok(None);
+    };
     let mine = words::text_at(texts, t.mine);
     let other = words::text_at(texts, t.other);
-    let word = number_word(form, t.number, machine, table);
-    let a = mine.bytes;
-    let b = word.bytes;
-    let c = other.bytes;
-    let i = mine.len as usize;
-    let j = word.len as usize;
-    let k = other.len as usize;
-    traces::write_wait(form, &a[..i], &b[..j], &c[..k], list.target, out)
+    let word = number_word(t.form, t.number, machine, table);
+    traces::write_wait(
+        t.form,
+        &mine.bytes[..mine.len as usize],
+        &word.bytes[..word.len as usize],
+        &other.bytes[..other.len as usize],
+        list.target,
+        out,
+    )
 }

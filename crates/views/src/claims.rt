@@ -1,70 +1,48 @@
 // Claims (PipelineRenameView), the queue, and the buffer, which this model has none of.
-ghost use Rattle.std.specs.Prelude.{◌≡◌, List, length};
-ghost use Rattle.std.proofs.Math.Option.{none};
-ghost use Rattle.laws.specs.Optional.{omap};
-ghost use Rattle.laws.specs.Lists.{nth};
-ghost use Rattle.laws.specs.Texts.{Text};
+ghost use Rattle.std.specs.Prelude.{◌≡◌, length, option_map, slice_get};
 ghost use Rattle.model.specs.Views.{slot_view, claims};
-ghost use Rattle.registers.specs.View.{view_maybe_owed};
-ghost use Rattle.flight.specs.declared.pool.TextPool.{TextPool};
-ghost use Rattle.flight.specs.View.{view_queue, QueueOk};
-ghost use Rattle.flight.specs.Pool.{legend, DecodedPoolOk};
-ghost use Rattle.occupants.specs.View.{view_maybe_slot};
+ghost use Rattle.registers.specs.View.{view_owed};
+ghost use Rattle.occupants.specs.View.{view_slot};
 ghost use Rattle.scoreboard.specs.View.{view_engine};
 ghost use Rattle.scoreboard.specs.Valid.{Valid};
 
-use flight::Queue;
-use flight::pool::DecodedPool;
-use occupants::{MaybeSlot, queued_op};
-use registers::MaybeOwed;
+use occupants::{PipelineSlotView, queued_op, slot};
+use registers::Owed;
 use scoreboard::ScoreboardPipeline;
 
 // PipelineDynamicInspect::rename_count
-pub fn rename_count(engine: ScoreboardPipeline) -> usize
-    requires { Valid engine }
-    ensures { result ≡ length (claims (view_engine engine)) }
+#[tactic(auto, unfolding(engine::specs::View::view_engine, board::specs::View::view_board, model::specs::Views::claims))]
+pub fn rename_count(engine: &ScoreboardPipeline) -> usize
+    requires { Valid engine.now }
+    ensures { result ≡ length (claims (view_engine engine.now)) }
 {
-    let board = engine.board;
-    let held = board.claims;
-    held.outstanding_count()
+    engine.board.claims.outstanding_count()
 }
 
 // PipelineDynamicInspect::rename, by rising register: its number, and the unit that owes it.
-pub fn rename(engine: ScoreboardPipeline, index: usize) -> MaybeOwed
-    requires { Valid engine }
-    ensures { view_maybe_owed result ≡ nth (claims (view_engine engine)) index }
+#[tactic(auto, unfolding(engine::specs::View::view_engine, board::specs::View::view_board, model::specs::Views::claims))]
+pub fn rename(engine: &ScoreboardPipeline, index: usize) -> Option<Owed>
+    requires { Valid engine.now }
+    ensures { option_map view_owed result ≡ slice_get (claims (view_engine engine.now)) index }
 {
-    let board = engine.board;
-    let held = board.claims;
-    held.outstanding(index)
-}
-
-// model: omap slot_view (nth queue i)
-fn queued_view(queue: Queue, decoded: DecodedPool, index: usize) -> MaybeSlot
-    requires queue_ok { QueueOk queue }
-    requires decoded_pool_ok { DecodedPoolOk decoded }
-    ensures { (ts : TextPool) (ns : List Text) → view_maybe_slot result ≡ omap slot_view (nth (view_queue (legend decoded ts ns) queue) index) }
-{
-    queued_op(queue, index).slot(decoded)
+    engine.board.claims.outstanding(index)
 }
 
 // PipelineDynamicInspect::queue_count
-pub fn queue_count(engine: ScoreboardPipeline) -> usize
-    requires { Valid engine }
-    ensures { result ≡ length (view_engine engine).queue }
+#[tactic(auto, using(crate::proofs::Shows::queue_counted), unfolding(engine::specs::View::view_engine, board::specs::View::view_board))]
+pub fn queue_count(engine: &ScoreboardPipeline) -> usize
+    requires { Valid engine.now }
+    ensures { result ≡ length (view_engine engine.now).queue }
 {
     engine.board.queue.len
 }
 
 // PipelineDynamicInspect::queued
-pub fn queued(engine: ScoreboardPipeline, index: usize) -> MaybeSlot
-    requires { Valid engine }
-    ensures { view_maybe_slot result ≡ omap slot_view (nth (view_engine engine).queue index) }
+pub fn queued(engine: &ScoreboardPipeline, index: usize) -> Option<PipelineSlotView>
+    requires { Valid engine.now }
+    ensures { option_map view_slot result ≡ option_map slot_view (slice_get (view_engine engine.now).queue index) }
 {
-    let board = engine.board;
-    let queue = board.queue;
-    let decoded = engine.decoded;
-    queued_view(queue, decoded, index)
+    slot(queued_op(&engine.board.queue, index), &engine.decoded)
 }
 
 // PipelineDynamicInspect::buffer_count
@@ -82,8 +60,8 @@ pub fn buffer_capacity() -> usize
 }
 
 // PipelineDynamicInspect::buffer_entry
-pub fn buffer_entry(index: usize) -> MaybeSlot
-    ensures { view_maybe_slot result ≡ none }
+pub fn buffer_entry(index: usize) -> Option<PipelineSlotView>
+    ensures { option_map view_slot result ≡ None }
 {
-    MaybeSlot::Nothing
+    None
 }

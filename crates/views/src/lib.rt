@@ -1,6 +1,6 @@
 // What a host sees of the engine (ooo/scoreboard.rs, the impls PipelineInspect and PipelineDynamicInspect): numbers by value, texts into a lent
 // buffer. A view of an engine hands the parts that it needs to a function on them.
-#![tactic(auto)]
+#![tactic(auto, unfolding(engine::specs::View::view_engine, board::specs::View::view_board, stalls::specs::View::view_log))]
 
 use capability::{PipelineStats, PipelineStatus};
 use scoreboard::ScoreboardPipeline;
@@ -30,27 +30,23 @@ ghost use Rattle.scoreboard.specs.Valid.{Valid};
 ghost use Rattle.views.specs.View.{view_status};
 
 // PipelineInspect::status
-pub fn status(engine: ScoreboardPipeline) -> PipelineStatus
-    requires { Valid engine }
-    ensures { view_status result ≡ status_view (view_engine engine) }
+#[tactic(auto, unfolding(engine::specs::View::view_engine, board::specs::View::view_board, model::specs::Views::status_view, crate::specs::View::view_status))]
+pub fn status(engine: &ScoreboardPipeline) -> PipelineStatus
+    requires { Valid engine.now }
+    ensures { view_status result ≡ status_view (view_engine engine.now) }
 {
-    let board = engine.board;
-    let front = board.front;
     PipelineStatus {
-        enabled: front.enabled,
-        sequential: !front.enabled,
-        halted: front.halted,
-        faulted: front.faulted,
+        enabled: engine.board.front.enabled,
+        sequential: !engine.board.front.enabled,
+        halted: engine.board.front.halted,
+        faulted: engine.board.front.faulted,
     }
 }
 
 // PipelineInspect::stats
-pub fn stats(engine: ScoreboardPipeline) -> PipelineStats
-    requires { Valid engine }
-    ensures { view_stats result ≡ (view_engine engine).log.stats }
+pub fn stats(engine: &ScoreboardPipeline) -> PipelineStats
+    requires { Valid engine.now }
+    ensures { view_stats result ≡ (view_engine engine.now).log.stats }
 {
-    let board = engine.board;
-    let log = board.log;
-    let counted = log.stats;
-    counted
+    engine.board.log.stats
 }

@@ -8,44 +8,37 @@ use occupants::in_flight;
 use scoreboard::ScoreboardPipeline;
 
 // ScoreboardPipeline::enabled
-pub fn enabled(engine: ScoreboardPipeline) -> bool
-    requires { Valid engine }
-    ensures { result ≡ (view_engine engine).front.enabled }
+pub fn enabled(engine: &ScoreboardPipeline) -> bool
+    requires { Valid engine.now }
+    ensures { result ≡ (view_engine engine.now).front.enabled }
 {
     engine.board.front.enabled
 }
 
 // ScoreboardPipeline::fetch_pc
-pub fn fetch_pc(engine: ScoreboardPipeline) -> u64
-    requires { Valid engine }
-    ensures { result ≡ (view_engine engine).front.fetch_pc }
+pub fn fetch_pc(engine: &ScoreboardPipeline) -> u64
+    requires { Valid engine.now }
+    ensures { result ≡ (view_engine engine.now).front.fetch_pc }
 {
     engine.board.fetch_pc
 }
 
 // ScoreboardPipeline::resume_pc: the address of the oldest operation in flight, or else where to fetch.
-pub fn resume_pc(engine: ScoreboardPipeline) -> u64
-    requires { Valid engine }
-    ensures { result ≡ resume_pc (view_engine engine) }
+#[tactic(auto, unfolding(engine::specs::View::view_engine, board::specs::View::view_board, model::specs::Scoreboard::in_flight, model::specs::Scoreboard::resume_pc))]
+pub fn resume_pc(engine: &ScoreboardPipeline) -> u64
+    requires { Valid engine.now }
+    ensures { result ≡ resume_pc (view_engine engine.now) }
 {
-    let board = engine.board;
-    let units = board.units;
-    let queue = board.queue;
-    let decoded = engine.decoded;
-    let found = in_flight::oldest_in_flight(units, queue);
-    in_flight::address_or(found, decoded, board.fetch_pc)
+    let found = in_flight::oldest_in_flight(&engine.board.units, &engine.board.queue);
+    in_flight::address_or(found, &engine.decoded, engine.board.fetch_pc)
 }
 
 // ScoreboardPipeline::in_flight_before: is one in flight that is older than a number?
-pub fn in_flight_before(engine: ScoreboardPipeline, seq: u64) -> bool
-    requires { Valid engine }
-    ensures { result ≡ in_flight_before seq (view_engine engine) }
+#[tactic(auto, using(crate::proofs::Shows::any_append), unfolding(engine::specs::View::view_engine, board::specs::View::view_board, model::specs::Scoreboard::in_flight, model::specs::Scoreboard::in_flight_before))]
+pub fn in_flight_before(engine: &ScoreboardPipeline, seq: u64) -> bool
+    requires { Valid engine.now }
+    ensures { result ≡ in_flight_before seq (view_engine engine.now) }
 {
-    let board = engine.board;
-    let units = board.units;
-    let queue = board.queue;
-    if in_flight::unit_before(units, seq) {
-        return true;
-    }
-    in_flight::queued_before(queue, seq)
+    in_flight::unit_before(&engine.board.units, seq)
+        || in_flight::queued_before(&engine.board.queue, seq)
 }

@@ -1,13 +1,13 @@
 // The stages, each with its oldest occupant, and the edges between them (SCOREBOARD_PHASES).
-ghost use Rattle.std.specs.Prelude.{◌≡◌, map, length};
+ghost use Rattle.std.specs.Prelude.{◌≡◌, map, length, option_map};
 ghost use Rattle.model.specs.Views.{stage_view, stages as all-stages, edges, entry_stages, stage_order};
-ghost use Rattle.inspect.specs.View.{view_maybe_stage};
+ghost use Rattle.inspect.specs.View.{view_stage};
 ghost use Rattle.scoreboard.specs.View.{view_engine};
 ghost use Rattle.scoreboard.specs.Valid.{Valid};
 ghost use Rattle.views.specs.View.{view_edge};
 
 use capability::{PipelineEdge, PipelineEdgeKind};
-use inspect::stages::{MaybeStage, stage_view};
+use inspect::stages::{PipelineStageView, stage_view};
 use scoreboard::ScoreboardPipeline;
 
 #[derive(Drop)]
@@ -23,18 +23,20 @@ pub fn stage_count() -> usize
 }
 
 // PipelineInspect::stage
-pub fn stage(engine: ScoreboardPipeline, index: usize) -> MaybeStage
-    requires { Valid engine }
-    ensures { view_maybe_stage result ≡ stage_view (view_engine engine) index }
+pub fn stage(engine: &ScoreboardPipeline, index: usize) -> Option<PipelineStageView>
+    requires { Valid engine.now }
+    ensures { option_map view_stage result ≡ stage_view (view_engine engine.now) index }
 {
-    let board = engine.board;
-    let units = board.units;
-    let queue = board.queue;
-    let decoded = engine.decoded;
-    stage_view(units, queue, decoded, index)
+    stage_view(
+        &engine.board.units,
+        &engine.board.queue,
+        &engine.decoded,
+        index,
+    )
 }
 
 // PipelineInspect::edges
+#[tactic(auto, using(crate::proofs::Shows::edges_shown))]
 pub fn edges() -> EdgeList
     ensures { map view_edge result.items ≡ edges }
 {
@@ -53,6 +55,7 @@ pub fn edges() -> EdgeList
 }
 
 // PipelineInspect::entry_stages: those that no sequential edge leads to.
+#[tactic(auto, using(crate::proofs::Shows::entries_shown))]
 pub fn entry_stages() -> [u8; 1]
     ensures { result ≡ entry_stages }
 {
@@ -60,6 +63,7 @@ pub fn entry_stages() -> [u8; 1]
 }
 
 // PipelineInspect::stage_order: breadth-first from the entry stages along sequential edges.
+#[tactic(auto, using(crate::proofs::Shows::order_shown))]
 pub fn stage_order() -> [u8; 5]
     ensures { result ≡ stage_order }
 {

@@ -1,83 +1,62 @@
--- A text in an array, one that may be there, and one at a place of a list.
-use Prim.Native.Nat.{ℕ, ◌≤◌, ◌<◌}
-use mathlib.Core.Path.{◌≡◌, sym, ap, ◌∙◌}
-use mathlib.Core.Bool.{true, false}
-use mathlib.Core.Logic.{⊎_elim}
-use mathlib.Core.Option.{Option, none, some}
-use mathlib.Core.List.{List, [], map}
-use native.Mathlib.Omega.{arith}
-use lib.ListN.{length, get_or, take, length-map, length-take, length-replicate}
-use Rattle.laws.specs.Lists.{nth}
-use Rattle.laws.specs.Texts.{Text}
-use Rattle.laws.proofs.Tests.{cond_yes, cond_no, lt-or-ge}
-use Rattle.laws.proofs.Choices.{none-some}
-use Rattle.laws.proofs.Slices.{nth_end, take-map, seen-nth, view-next}
-use Rattle.op.specs.declared.Text.{Text as TextBytes}
-use Rattle.op.specs.declared.MaybeText.{MaybeText}
-use Rattle.op.specs.declared.MaybeName.{MaybeName}
-use Rattle.op.specs.View.{shown, view_text, view_name, view_maybe_text, view_maybe_name}
-use Rattle.op.proofs.Texts.{shown-long, shown-short}
-use Rattle.traces.specs.declared.texts.Written.{Written}
-use Rattle.traces.specs.declared.texts.Written.TheVariants.{Nothing}
-use Rattle.traces.specs.Texts.{Wrote}
-use Rattle.traces.proofs.Written.{wrote_none}
-use Rattle.words.specs.Fits.{TextFits, NameFits}
+-- A text in an array, none, and one at a place of a list.
+use Rattle.std.proofs.Common.{◌≡◌, ℕ, ◌≤◌, ◌<◌, List, map, length, take, replicate, sym, refl, ap, ◌∙◌, Option, None, Some, Ok, arith, option_map, ⊎_elim}
+use lib.ListN.{length-replicate}
+use denote.Ref.{Bor}
+use Rattle.std.specs.Prelude.{slice_get}
+use Rattle.std.proofs.lemmas.Option.{slice_get-map}
+use Rattle.laws.proofs.Tests.{cond-lt, cond-ge, lt-or-ge}
+use Rattle.op.specs.declared.chars.Chars.{Chars}
+use Rattle.op.specs.Chars.{shown, view_text}
+use Rattle.model.specs.Timeline.{overlay}
+use Rattle.model.specs.Requests.{short_for, buffer_with}
+use Rattle.model.specs.Calls.{first_of}
+use Rattle.registers.specs.View.{NameOk}
+use Rattle.traces.specs.Texts.{Written, written, text_answer, text_reply, Wrote}
 
 -- ── Another way to write what is asked for ──────────────────────────────────
 
-pub wrote-is : {t u : Option Text} {lent out : List ℕ} {r : Written} → t ≡ u → Wrote t lent out r → Wrote u lent out r
+pub wrote-is : {t u : Option (List ℕ)} {lent out : List ℕ} {r : Written} → t ≡ u → Wrote t lent out r → Wrote u lent out r
 wrote-is e w = rw e at w
 
-pub wrote_nothing : {t : Option Text} (lent : List ℕ) → t ≡ none → Wrote t lent lent Nothing
+pub wrote_none : (lent : List ℕ) → Wrote None lent lent (Ok None)
+unfolding written text_answer text_reply first_of short_for buffer_with overlay
+wrote_none lent = record { is = refl; buffer = refl; answer = refl }
+
+pub wrote_nothing : {t : Option (List ℕ)} (lent : List ℕ) → t ≡ None → Wrote t lent lent (Ok None)
 wrote_nothing lent e = wrote-is (sym e) (wrote_none lent)
+
+pub wrote_missing : {A : Type 0} (f : A → List ℕ) (m : Option A) (lent : List ℕ) → m ≡ None → Wrote (option_map f m) lent lent (Ok None)
+wrote_missing f m lent e = wrote_nothing lent (ap (option_map f) e)
 
 -- ── In an array ─────────────────────────────────────────────────────────────
 
-module _ (most len : ℕ) (bytes : List ℕ) where
-  pub wrote-shown : {lent out : List ℕ} {r : Written} → len ≤ most → Wrote (some (take len bytes)) lent out r → Wrote (some (shown most len bytes)) lent out r
-  wrote-shown h = wrote-is (ap some (sym (shown-short most len bytes h)))
+pub shown_whole : {N : ℕ} (t : Chars N) → t.len ≤ N → view_text t ≡ take t.len t.bytes
+unfolding view_text shown
+shown_whole t h = cond-ge _ _ h
 
-  -- A text within the limit has a count within it.
-  pub shown-count : length (shown most len bytes) ≤ most → len ≤ most
-  shown-count h =
-      ⊎_elim (λ l. absurd (let z : ⊥ = omega (arith, h, ap length (shown-long most len bytes l), length-replicate {A = ℕ} len 0) in z)) (λ l. l)
-      (lt-or-ge most len)
+pub wrote_shown : {N : ℕ} (t : Chars N) {lent out : List ℕ} {r : Written} → t.len ≤ N → Wrote (Some (take t.len t.bytes)) lent out r
+    → Wrote (Some (view_text t)) lent out r
+wrote_shown t h = wrote-is (ap Some (sym (shown_whole t h)))
 
--- ── One that may be there ───────────────────────────────────────────────────
+-- A text within the limit has a count within it.
+pub shown-count : (most len : ℕ) (bytes : List ℕ) → length (shown most len bytes) ≤ most → len ≤ most
+unfolding shown
+shown-count most len bytes h =
+    ⊎_elim
+    (λ (l : most < len). absurd (omega (arith, h, ap length (cond-lt (replicate len 0) (take len bytes) l), length-replicate {A = ℕ} len 0)))
+    (λ l. l)
+    (lt-or-ge most len)
 
-module _ (m : MaybeText) where
-  pub text-there : m.some ≡ true → some (view_text m.text) ≡ view_maybe_text m
-  unfolding view_maybe_text
-  text-there e = sym (cond_yes _ _ e)
-
-  pub text-missing : m.some ≡ false → view_maybe_text m ≡ none
-  unfolding view_maybe_text
-  text-missing e = cond_no _ _ e
-
-  pub no-text_fits : view_maybe_text m ≡ none → TextFits m
-  no-text_fits e q = none-some _ (sym e ∙ sym (text-there q))
-
-module _ (m : MaybeName) where
-  pub name-there : m.some ≡ true → some (view_name m.name) ≡ view_maybe_name m
-  unfolding view_maybe_name
-  name-there e = sym (cond_yes _ _ e)
-
-  pub name-missing : m.some ≡ false → view_maybe_name m ≡ none
-  unfolding view_maybe_name
-  name-missing e = cond_no _ _ e
-
-  pub no-name-fits : view_maybe_name m ≡ none → NameFits m
-  no-name-fits e q = none-some _ (sym e ∙ sym (name-there q))
-
-pub empty-fits : (t : TextBytes) → view_text t ≡ [] → t.len ≤ 64
+pub name_fits : (x : Chars 16) → NameOk x → x.len ≤ 16
 unfolding view_text
-empty-fits t e = shown-count 64 t.len t.bytes (omega (arith, ap length e))
+name_fits x h = shown-count 16 x.len x.bytes h
 
 -- ── At a place of a list ────────────────────────────────────────────────────
 
-module _ {A B : Type 0} (f : A → B) (l : List A) {n i : ℕ} where
-  pub nth_past : n ≤ i → nth (map f (take n l)) i ≡ none
-  nth_past h = nth_end (map f (take n l)) (simp (length-map, length-take) (omega arith))
+pub wrote_past : {A : Type 0} (f : A → List ℕ) (l : List A) (i : ℕ) (m : Option (Bor A)) (lent : List ℕ) → option_map (λ x. x.now) m ≡ slice_get l i → m ≡ None
+    → Wrote (slice_get (map f l) i) lent lent (Ok None)
+wrote_past f l i m lent e h = wrote_nothing lent (slice_get-map f l i ∙ ap (option_map f) (sym e ∙ ap (option_map (λ x. x.now)) h))
 
-  pub nth-there : (d : A) → n ≤ length l → i < n → some (f (get_or l i d)) ≡ nth (map f (take n l)) i
-  nth-there d k h = sym (ap (λ w. nth w i) (sym (take-map f n l)) ∙ seen-nth (view-next f l d k h))
+pub wrote_nth : {A : Type 0} (f : A → List ℕ) (l : List A) (i : ℕ) {x : A} {lent out : List ℕ} {r : Written} → slice_get l i ≡ Some x
+    → Wrote (Some (f x)) lent out r → Wrote (slice_get (map f l) i) lent out r
+wrote_nth f l i e = wrote-is (sym (slice_get-map f l i ∙ ap (option_map f) e))

@@ -1,13 +1,9 @@
-use mathlib.Core.Path.{sym, ◌∙◌}
-use native.Mathlib.Omega.{arith}
-use Rattle.flight.proofs.Entries.{entry-ok}
-use Rattle.occupants.specs.View.{view_maybe_op}
-use Rattle.occupants.proofs.Held.{queue-nth, queue-past}
+-- One at a place.
+use Rattle.std.proofs.Common.{arith}
+use Rattle.std.proofs.lemmas.Grind.{common_steps}
+use Rattle.std.proofs.lemmas.Option.{gets}
+use Rattle.occupants.proofs.Seen.{queued_there}
 use Rattle.occupants.proofs.queued_op.Goals as goal
 
-pub returns-then-queue-index : goal.returns-then-queue-index
-returns-then-queue-index c = let e = c.none.ensures in record { is = λ g. e.is g ∙ sym (queue-past c.requires g c.if-queue-index.true); ok = e.ok }
-
 pub returns : goal.returns
-unfolding view_maybe_op
-returns c = let h = c.if-queue-index.false in record { is = λ g. sym (queue-nth c.requires g _ h); ok = entry-ok c.requires _ (omega (arith, c.requires.few, h)) }
+returns c = queued_there c.requires c.args.index (grind (arith, common_steps, gets))

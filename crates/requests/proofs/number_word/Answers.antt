@@ -12,11 +12,11 @@ unfolding number_word
 returns-in-AllBusy c = let a = c.args in
     let e = c.as_name.ensures in
     record {
-      is = e.is ∙ c.spec_name-kind.ensures.is ∙ sym (ap (λ f. number_word f (view_machine a.machine).specs (view_held a.table) a.number) c.in-AllBusy.is);
+      is = e.is ∙ c.spec_name.ensures.is ∙ sym (ap (λ f. number_word f (view_machine a.machine.now).specs (view_held a.table.now) a.number) c.in-AllBusy.is);
       ok = e.ok;
     }
 
 pub returns : goal.returns
 returns c = let a = c.args in
     let e = c.name.ensures in
-    record { is = e.is ∙ word-register (view_machine a.machine).specs (view_held a.table) a.number a.form (search rules); ok = e.ok }
+    record { is = e.is ∙ word-register (view_machine a.machine.now).specs (view_held a.table.now) a.number a.form (search rules); ok = e.ok }

@@ -1,16 +1,14 @@
-use Rattle.laws.proofs.Search.{scan-next, scan-stop, scan-last}
-use Rattle.registers.specs.View.{view_maybe_index, view_owed}
-use Rattle.inspect.proofs.Station.{waits-next, waits_end, owed-hit, owed-miss, owed-end}
+-- The unit of the first that has the register.
+use Rattle.std.proofs.Common.{rules, ◌≡◌, ◌==◌, ap, ◌∙◌, option_map}
+use borrow.Author.Tests.{tests}
+use Rattle.std.proofs.lemmas.Iterator.{YieldsList-from_slice}
+use Rattle.std.proofs.lemmas.Iterator.Search.{find_from_yields_List}
+use Rattle.inspect.proofs.Station.{owed_found}
 use Rattle.inspect.proofs.stations.owed.Goals as goal
 
-pub returns-then-p-register : goal.returns-then-p-register
-unfolding view_maybe_index view_owed
-returns-then-p-register c = scan-stop c.loop-i.invariant (waits-next c.requires _ c.loop-i-test.true) (owed-hit c.args.register _ c.if-p-register.true)
-
-pub loop-i-preserved : goal.loop-i-preserved
-unfolding view_owed
-loop-i-preserved c = scan-next c.loop-i.invariant (waits-next c.requires _ c.loop-i-test.true) (owed-miss c.args.register _ c.if-p-register.false)
-
 pub returns : goal.returns
-unfolding view_maybe_index
-returns c = scan-last c.loop-i.invariant (waits_end _ c.loop-i-test.false) (owed-end c.args.register)
+returns c =
+    let found = find_from_yields_List (λ p. p.register == c.args.register) _ _ c.find.result c.find.ensures.ran (YieldsList-from_slice c.args.pending.now cc)
+    (λ x b q k. search (rules, tests)) in
+    let mapped : c.map.result ≡ option_map (λ p. p.unit) (option_map (λ x. x.now) c.find.result) = search rules in
+    owed_found c.args.register c.args.pending.now (mapped ∙ ap (option_map (λ p. p.unit)) found)

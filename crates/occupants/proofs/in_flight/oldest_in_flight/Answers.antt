@@ -1,21 +1,29 @@
-use Prim.Native.Nat.{◌<◌}
-use native.Mathlib.Omega.{arith}
-use Rattle.bank.proofs.Steps.{unit_ok}
-use Rattle.occupants.proofs.Flight.{found_below, flight-found, flight-queued}
+-- The least of the busy units, and the least of the queue behind it.
+use Rattle.std.proofs.Common.{rules}
+use Rattle.std.proofs.lemmas.Iterator.{YieldsList-from_slice}
+use Rattle.std.proofs.lemmas.Iterator.Consumers.{YieldsList-from_filter}
+use Rattle.bank.specs.View.{slots}
+use Rattle.occupants.proofs.Least.{least, least_from}
+use Rattle.occupants.proofs.Seen.{busy_ok, flight_busy, flight_queued}
 use Rattle.occupants.proofs.in_flight.oldest_in_flight.Goals as goal
 
-pub offset_bounds-items-i : goal.offset_bounds-items-i
-offset_bounds-items-i c = omega (arith, (let here : c.in-Some.i < c.args.units.len = found_below c.requires.units_ok c.oldest_first.ensures c.in-Some.is in here), c.requires.units_ok.few)
-
-pub bounds-items-i : goal.bounds-items-i
-bounds-items-i c = omega (arith, (let here : c.in-Some.i < c.args.units.len = found_below c.requires.units_ok c.oldest_first.ensures c.in-Some.is in here), c.requires.units_ok.few)
-
 pub op_of-requires : goal.op_of-requires
-op_of-requires c = unit_ok c.requires.units_ok _ (let here : c.in-Some.i < c.args.units.len = found_below c.requires.units_ok c.oldest_first.ensures c.in-Some.is in here)
+op_of-requires c =
+    busy_ok c.requires.units_ok c.args.queue.now
+    (least_from (λ y. y.now) (λ u. u.seq) (λ x k h p. search rules) c.min_by_key.result c.min_by_key.ensures.ran
+    (YieldsList-from_filter _ (λ u. u.busy) (YieldsList-from_slice (slots c.args.units.now) cc) c.filter-busy.ensures.closure (λ x b h p. search rules)))
+    c.in-Some.u c.in-Some.is
 
 pub returns-in-Some : goal.returns-in-Some
-returns-in-Some c = flight-found c.requires.units_ok c.oldest_first.ensures c.args.queue c.oldest_queued-queued.ensures c.in-Some.is _ _ c.op_of.ensures.is
-    c.older_op.ensures
+returns-in-Some c =
+    flight_busy c.requires.units_ok c.args.queue.now
+    (least_from (λ y. y.now) (λ u. u.seq) (λ x k h p. search rules) c.min_by_key.result c.min_by_key.ensures.ran
+    (YieldsList-from_filter _ (λ u. u.busy) (YieldsList-from_slice (slots c.args.units.now) cc) c.filter-busy.ensures.closure (λ x b h p. search rules)))
+    c.oldest_queued-queued.ensures c.in-Some.u c.in-Some.is c.op_of.ensures c.older_op.ensures
 
-pub returns-in-Nothing : goal.returns-in-Nothing
-returns-in-Nothing c = flight-queued c.requires.units_ok c.oldest_first.ensures c.args.queue c.oldest_queued-queued.ensures c.in-Nothing.is
+pub returns-in-None : goal.returns-in-None
+returns-in-None c =
+    flight_queued c.requires.units_ok c.args.queue.now
+    (least_from (λ y. y.now) (λ u. u.seq) (λ x k h p. search rules) c.min_by_key.result c.min_by_key.ensures.ran
+    (YieldsList-from_filter _ (λ u. u.busy) (YieldsList-from_slice (slots c.args.units.now) cc) c.filter-busy.ensures.closure (λ x b h p. search rules)))
+    c.oldest_queued-queued.ensures c.in-None.is

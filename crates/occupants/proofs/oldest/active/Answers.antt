@@ -1,21 +1,15 @@
-use mathlib.Core.Path.{sym, ◌∙◌}
-use native.Mathlib.Omega.{arith}
-use Rattle.laws.proofs.Search.{scan-next, count-hit, count-miss, count-last}
+-- As many as pass.
+use Rattle.std.proofs.Common.{rules}
+use Rattle.std.proofs.lemmas.Iterator.{YieldsList-from_slice}
+use Rattle.std.proofs.lemmas.Iterator.Consumers.{YieldsList-from_filter, count_from_yields_List}
 use Rattle.model.specs.Views.{in_kind}
-use Rattle.bank.proofs.Steps.{units-next, units-end}
+use Rattle.units.specs.View.{view_unit}
+use Rattle.bank.specs.View.{slots}
+use Rattle.occupants.proofs.Seen.{units_count}
 use Rattle.occupants.proofs.oldest.active.Goals as goal
 
-pub loop-i-preserved-then-in_kind : goal.loop-i-preserved-then-in_kind
-loop-i-preserved-then-in_kind c = let a = c.loop-i.invariant in (
-  omega (arith, a.0),
-  λ g. scan-next (a.1 g) (units-next c.requires g _ c.loop-i-test.true) (count-hit _ _ (sym (c.in_kind.ensures g) ∙ c.if-in_kind.true)),
-)
-
-pub loop-i-preserved : goal.loop-i-preserved
-loop-i-preserved c = let a = c.loop-i.invariant in (
-  omega (arith, a.0),
-  λ g. scan-next (a.1 g) (units-next c.requires g _ c.loop-i-test.true) (count-miss _ _ (sym (c.in_kind.ensures g) ∙ c.if-in_kind.false)),
-)
-
 pub returns : goal.returns
-returns c = λ g. count-last (in_kind c.args.kind) (c.loop-i.invariant.1 g) (units-end g _ c.loop-i-test.false)
+returns c = units_count (in_kind c.args.kind) c.args.units.now (λ g.
+    count_from_yields_List {v = λ y. y.now} _ c.count.result c.count.ensures.ran
+    (YieldsList-from_filter _ (λ u. in_kind c.args.kind (view_unit g u)) (YieldsList-from_slice (slots c.args.units.now) cc) c.filter.ensures.closure
+    (λ x b h p. search rules)))

@@ -1,14 +1,16 @@
-use mathlib.Core.Path.{sym, ◌∙◌}
-use Rattle.model.specs.Units.{in_phase}
-use Rattle.occupants.proofs.Walks.{oldest-first, oldest-found, oldest-passed}
+-- The least of the units in the phase, by their numbers.
+use Rattle.std.proofs.Common.{rules, ◌∙◌}
+use Rattle.std.proofs.lemmas.Iterator.{YieldsList-from_slice}
+use Rattle.std.proofs.lemmas.Iterator.Consumers.{YieldsList-from_filter}
+use Rattle.model.specs.Units.{in_phase, seq_of}
+use Rattle.units.specs.View.{view_unit}
+use Rattle.bank.specs.View.{slots}
+use Rattle.occupants.proofs.Least.{least_from}
+use Rattle.occupants.proofs.Seen.{oldest_means}
 use Rattle.occupants.proofs.oldest.in_phase.Goals as goal
 
-pub loop-i-init : goal.loop-i-init
-loop-i-init c = oldest-first (in_phase c.args.phase) c.args.units c.none-found.ensures
-
-pub loop-i-preserved-then-in_phase : goal.loop-i-preserved-then-in_phase
-loop-i-preserved-then-in_phase c = oldest-found (in_phase c.args.phase) c.args.units c.requires c.loop-i.invariant _ c.loop-i-test.true
-    (λ g. sym (c.in_phase.ensures g) ∙ c.if-in_phase.true) c.older-found.ensures
-
-pub loop-i-preserved : goal.loop-i-preserved
-loop-i-preserved c = oldest-passed (in_phase c.args.phase) c.args.units c.requires c.loop-i.invariant _ c.loop-i-test.true (λ g. sym (c.in_phase.ensures g) ∙ c.if-in_phase.false)
+pub returns : goal.returns
+returns c = oldest_means c.requires (in_phase c.args.phase) (λ g.
+    c.copied.ensures ∙ least_from (λ y. y.now) (λ u. seq_of (view_unit g u)) (λ x k h p. search rules) c.min_by_key.result c.min_by_key.ensures.ran
+    (YieldsList-from_filter _ (λ u. in_phase c.args.phase (view_unit g u)) (YieldsList-from_slice (slots c.args.units.now) cc) c.filter.ensures.closure
+    (λ x b h p. search rules)))

@@ -1,14 +1,17 @@
-use mathlib.Core.Path.{sym, ◌∙◌}
+-- The least of the units of the kind, by their numbers.
+use Rattle.std.proofs.Common.{rules, ◌∙◌}
+use Rattle.std.proofs.lemmas.Iterator.{YieldsList-from_slice}
+use Rattle.std.proofs.lemmas.Iterator.Consumers.{YieldsList-from_filter}
+use Rattle.model.specs.Units.{seq_of}
 use Rattle.model.specs.Views.{in_kind}
-use Rattle.occupants.proofs.Walks.{oldest-first, oldest-found, oldest-passed}
+use Rattle.units.specs.View.{view_unit}
+use Rattle.bank.specs.View.{slots}
+use Rattle.occupants.proofs.Least.{least_from}
+use Rattle.occupants.proofs.Seen.{oldest_means}
 use Rattle.occupants.proofs.oldest.of_kind.Goals as goal
 
-pub loop-i-init : goal.loop-i-init
-loop-i-init c = oldest-first (in_kind c.args.kind) c.args.units c.none-found.ensures
-
-pub loop-i-preserved-then-in_kind : goal.loop-i-preserved-then-in_kind
-loop-i-preserved-then-in_kind c = oldest-found (in_kind c.args.kind) c.args.units c.requires c.loop-i.invariant _ c.loop-i-test.true
-    (λ g. sym (c.in_kind.ensures g) ∙ c.if-in_kind.true) c.older-found.ensures
-
-pub loop-i-preserved : goal.loop-i-preserved
-loop-i-preserved c = oldest-passed (in_kind c.args.kind) c.args.units c.requires c.loop-i.invariant _ c.loop-i-test.true (λ g. sym (c.in_kind.ensures g) ∙ c.if-in_kind.false)
+pub returns : goal.returns
+returns c = oldest_means c.requires (in_kind c.args.kind) (λ g.
+    c.copied.ensures ∙ least_from (λ y. y.now) (λ u. seq_of (view_unit g u)) (λ x k h p. search rules) c.min_by_key.result c.min_by_key.ensures.ran
+    (YieldsList-from_filter _ (λ u. in_kind c.args.kind (view_unit g u)) (YieldsList-from_slice (slots c.args.units.now) cc) c.filter.ensures.closure
+    (λ x b h p. search rules)))

@@ -1,19 +1,23 @@
 -- The name of the unit's kind, and its number.
-use mathlib.Core.Path.{◌∙◌}
-use Rattle.laws.proofs.Tests.{omap-none}
-use Rattle.model.specs.Requests.{station_text}
+use Rattle.std.proofs.Common.{◌≡◌, sym, ◌∙◌, arith, option_map}
+use Rattle.std.proofs.lemmas.Grind.{common_steps}
+use Rattle.std.proofs.lemmas.Option.{gets}
+use Rattle.std.specs.Prelude.{slice_get}
 use Rattle.config.specs.View.{view_machine}
-use Rattle.occupants.proofs.Held.{units-past}
-use Rattle.words.proofs.Shown.{wrote-is, wrote_nothing}
-use Rattle.requests.proofs.Known.{kind_bytes, station_label}
+use Rattle.bank.specs.View.{slots}
+use Rattle.words.proofs.Shown.{wrote-is, wrote_nothing, shown_whole}
+use Rattle.requests.proofs.Known.{station_label, station-past}
 use Rattle.requests.proofs.named.write_station_label.Goals as goal
 
-pub returns-then-units-index : goal.returns-then-units-index
-returns-then-units-index c = λ g. wrote_nothing _ (omap-none (station_text (view_machine c.args.machine).specs) (units-past c.requires.units_ok g c.if-units-index.true))
+pub returns-in_default : goal.returns-in_default
+returns-in_default c = λ g.
+    let m : option_map (λ x. x.now) c.get.result ≡ slice_get (slots c.args.units.now) c.args.index = grind (arith, common_steps, gets) in
+    wrote_nothing _ (station-past c.args.units.now c.args.index m g c.in_default.is (view_machine c.args.machine.now).specs)
 
 pub returns : goal.returns
 returns c = λ g.
+    let m : option_map (λ x. x.now) c.get.result ≡ slice_get (slots c.args.units.now) c.args.index = grind (arith, common_steps, gets) in
     wrote-is
-    (station_label c.requires.units_ok g _ c.if-units-index.false (view_machine c.args.machine).specs
-    (kind_bytes c.spec_name-name.result c.spec_name-name.ensures.fits ∙ c.spec_name-name.ensures.is))
+    (station_label c.args.units.now c.args.index m g c.in-Some.u c.in-Some.is (view_machine c.args.machine.now).specs
+    (sym (shown_whole c.spec_name-name.result c.spec_name-name.ensures.fits) ∙ c.spec_name-name.ensures.is))
     c.write_label.ensures

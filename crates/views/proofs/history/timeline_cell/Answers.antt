@@ -8,10 +8,10 @@ use Rattle.views.proofs.history.timeline_cell.Goals as goal
 
 pub returns-in-Some : goal.returns-in-Some
 unfolding engine-view view_board view_machine
-returns-in-Some c = cell-shown (view_engine c.args.engine) _ c.args.row c.args.index c.requires.parts.history c.timeline_row-shown.ensures
+returns-in-Some c = cell-shown (view_engine c.args.engine.now) _ c.args.row c.args.index c.requires.parts.history c.timeline_row.ensures
     c.in-Some.is c.cell.ensures
 
-pub returns-in-Nothing : goal.returns-in-Nothing
+pub returns-in-None : goal.returns-in-None
 unfolding engine-view view_board view_machine cell_answer
-returns-in-Nothing c = cell-missing (view_engine c.args.engine) _ c.args.row c.args.index c.requires.parts.history c.timeline_row-shown.ensures
-    c.in-Nothing.is
+returns-in-None c = cell-missing (view_engine c.args.engine.now) _ c.args.row c.args.index c.requires.parts.history c.timeline_row.ensures
+    c.in-None.is

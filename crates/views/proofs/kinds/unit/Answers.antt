@@ -3,10 +3,10 @@ use Rattle.registers.specs.View.{view_held}
 use Rattle.board.specs.View.{view_board}
 use Rattle.scoreboard.specs.View.{view_engine}
 use Rattle.engine.specs.View.{view_engine as engine-view}
-use Rattle.views.proofs.Shows.{unit-same}
+use Rattle.views.proofs.Shows.{unit_same}
 use Rattle.views.proofs.kinds.unit.Goals as goal
 
 pub returns : goal.returns
 unfolding engine-view view_board
-returns c = let e = c.args.engine in
-    c.unit_view.ensures e.texts (view_held e.table) ∙ unit-same (view_engine e) c.args.index
+returns c = let e = c.args.engine.now in
+    c.unit_view.ensures e.texts (view_held e.table) ∙ unit_same (view_engine e) c.args.index
