@@ -2,7 +2,7 @@
 use Prim.Native.Nat.{ℕ, ◌*◌, ◌≤◌}
 use mathlib.Core.Path.{◌≡◌, refl, sym, subst, ap, ◌∙◌}
 use mathlib.Core.Bool.{true, false, cond, not, ◌&&◌, ◌||◌}
-use mathlib.Core.Option.{Option, none, some}
+use Rattle.std.specs.Prelude.{Option, None, Some}
 use mathlib.Core.List.{List, [], ◌∷◌}
 use lib.Dec.{ltb, T}
 use lib.ListN.{length}
@@ -13,30 +13,8 @@ use Rattle.laws.proofs.Choices.{false-T}
 use Rattle.model.specs.Timeline.{Write, write_all}
 use Rattle.model.specs.State.{Front, State, with_turn}
 use Rattle.model.specs.Issue.{complete_at, complete_offer, complete_write}
-use Rattle.model.specs.Scoreboard.{
-  advance as do_advance,
-  advance_writes,
-  after_issue,
-  close_cycle,
-  closed,
-  stops,
-}
-use Rattle.model.specs.Calls.{
-  Check,
-  first_of,
-  advance,
-  invitation,
-  invitation_of,
-  no_offer,
-  unsettled,
-  short_memory,
-  checks,
-  refusal,
-  run,
-  reply,
-  sets,
-  memory_after,
-}
+use Rattle.model.specs.Scoreboard.{advance as do_advance, advance_writes, after_issue, close_cycle, closed, stops}
+use Rattle.model.specs.Calls.{Check, first_of, advance, invitation, invitation_of, no_offer, unsettled, short_memory, checks, refusal, run, reply, sets, memory_after}
 use Rattle.config.specs.View.{view_machine}
 use Rattle.registers.specs.View.{claimed as index}
 use Rattle.board.specs.declared.Board.{Board}
@@ -58,8 +36,8 @@ unfolding closed close_cycle complete_write complete_offer complete_at
 closed-front s = go s.offer.writing
   where
     go : (o : Option ℕ) → (close_cycle (complete_offer o s)).front ≡ with_turn false false s.front
-    go none = refl
-    go (some i) = refl
+    go None = refl
+    go (Some i) = refl
 
 module _ (e : Engine) {b : Board} (cl : Closes e.board b) where
   front-is : (view_board (frame_of e) b).front ≡ with_turn false false (view_engine e).front
@@ -107,7 +85,7 @@ pub checked : {e : Engine} → Valid e → (target : Option ℕ) (lent : ℕ)
 unfolding refusal checks unsettled no_offer short_memory view_engine view_board view_machine
 checked {e} v target lent = ap (λ n. first_of (rows-by e.board n lent)) v.parts.history
 
-module _ (b : Board) (history lent : ℕ) (h : first_of (rows-by b history lent) ≡ none) where
+module _ (b : Board) (history lent : ℕ) (h : first_of (rows-by b history lent) ≡ None) where
   pub cycle-open : b.front.in_cycle ≡ true
   cycle-open = yes-of-not b.front.in_cycle (row-passes 5 _ h).0
 
@@ -121,11 +99,11 @@ stops-board e = refl
 -- ── What is left ────────────────────────────────────────────────────────────
 
 module _ {e : Engine} (v : Valid e) (target : Option ℕ) (m : List ℕ) where
-  pub memory-refused : {n : ℕ} → refusal (view_engine e) (advance target (length m)) ≡ some n
+  pub memory-refused : {n : ℕ} → refusal (view_engine e) (advance target (length m)) ≡ Some n
       → m ≡ memory_after (view_engine e) (advance target (length m)) m
   memory-refused h = memory_kept (view_engine e) (advance target (length m)) m h
 
-  module _ (h : refusal (view_engine e) (advance target (length m)) ≡ none) where
+  module _ (h : refusal (view_engine e) (advance target (length m)) ≡ None) where
     memory-taken : {ws : List Write} → advance_writes target (view_engine e) ≡ ws
         → write_all ws m ≡ memory_after (view_engine e) (advance target (length m)) m
     unfolding sets
@@ -144,8 +122,8 @@ module _ {e : Engine} (v : Valid e) (target : Option ℕ) (m : List ℕ) where
           (λ n.
           ap invitation
           (sym
-          (ap (λ (s : State). cond s.front.invited (some s.front.fetch_pc) none) run-stops
-          ∙ ap (λ (f : Front). cond f.invited (some f.fetch_pc) none) (closed-front (view_engine e)))))
+          (ap (λ (s : State). cond s.front.invited (Some s.front.fetch_pc) None) run-stops
+          ∙ ap (λ (f : Front). cond f.invited (Some f.fetch_pc) None) (closed-front (view_engine e)))))
           (cl.is (frame_of e) ∙ sym run-stops)
           (stopped-parts e cl v.parts q)
 

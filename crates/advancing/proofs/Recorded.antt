@@ -1,7 +1,7 @@
 -- The cells of a cycle, one list after the other: rows and lent memory are the model's.
 use Prim.Native.Nat.{ℕ}
 use mathlib.Core.Path.{◌≡◌, refl, sym, ap, ap₂, ◌∙◌}
-use mathlib.Core.Option.{Option, none, some}
+use Rattle.std.specs.Prelude.{Option, None, Some}
 use mathlib.Core.List.{List, [], ◌∷◌, ◌++◌}
 use lib.ListN.{length}
 use Rattle.model.specs.Timeline.{Row, Write, push, push_all, push_writes, push_all_writes, write_all}
@@ -61,14 +61,14 @@ module _ (x : Frame) (b : Board) where
   pub redirected-rows : (o : Option ℕ)
       → (redirected o (clear_status (view_board x b))).log.rows ≡ push_all (dropped_cells o (view_queue x.legend b.queue)) x.rows
   unfolding redirected flush clear_status view_board view_log push_all
-  redirected-rows none = refl
-  redirected-rows (some t) = refl
+  redirected-rows None = refl
+  redirected-rows (Some t) = refl
 
   pub redirected-writes : (o : Option ℕ)
       → redirect_writes o (view_board x b) ≡ push_all_writes x.machine.history (dropped_cells o (view_queue x.legend b.queue)) x.rows
   unfolding redirect_writes view_board view_log push_all_writes
-  redirected-writes none = refl
-  redirected-writes (some t) = refl
+  redirected-writes None = refl
+  redirected-writes (Some t) = refl
 
   -- ---- the timeline
 

@@ -1,7 +1,7 @@
 -- An advance of an engine, by its parts.
 use Prim.Native.Nat.{ℕ}
 use mathlib.Core.Path.{◌≡◌, sym, subst}
-use mathlib.Core.Option.{Option}
+use Rattle.std.specs.Prelude.{Option}
 use Rattle.model.specs.Calls.{advance}
 use Rattle.engine.specs.Engine.{Engine}
 use Rattle.engine.specs.Valid.{Valid}

@@ -2,7 +2,7 @@
 use Prim.Native.Nat.{ℕ, ◌≤◌}
 use mathlib.Core.Path.{◌≡◌, refl, sym, subst, ap, ap₂, ◌∙◌}
 use mathlib.Core.Bool.{false}
-use mathlib.Core.Option.{Option, none, some}
+use Rattle.std.specs.Prelude.{Option, None, Some}
 use mathlib.Core.List.{List, [], ◌++◌, map}
 use native.Mathlib.Omega.{arith}
 use lib.Dec.{T}
@@ -13,19 +13,7 @@ use Rattle.laws.proofs.Choices.{false-T}
 use Rattle.model.specs.Units.{is_busy}
 use Rattle.model.specs.Timeline.{Row, push_all_writes, write_all}
 use Rattle.model.specs.State.{Front, State}
-use Rattle.model.specs.Issue.{
-  redirected,
-  tick_execute,
-  start_ready,
-  read_operands,
-  issue,
-  queue_cell,
-  unit_cell,
-  timeline_cells,
-  record_timeline,
-  redirect_writes,
-  timeline_writes,
-}
+use Rattle.model.specs.Issue.{redirected, tick_execute, start_ready, read_operands, issue, queue_cell, unit_cell, timeline_cells, record_timeline, redirect_writes, timeline_writes}
 use Rattle.model.specs.Scoreboard.{closed, clear_status, before_issue, invite, after_issue}
 use Rattle.model.specs.Calls.{invitation, invitation_of}
 use Rattle.invariant.proofs.Advance.{flags-issued}
@@ -88,14 +76,14 @@ module _ (x : Frame) {t : RegisterTable} (ok : TableOk t) {b r : Board} where
       : (o : Option ℕ) → x.legend.names ≡ view_held t → t.known ≡ b.claims.len → Looks x b → Redirects b r o
       → {held : ℕ} → held ≡ when_some o t.held (λ (n : ℕ). t.known) → Holding x t held r
   unfolding view_held view_known
-  holding none n k l s h =
+  holding None n k l s h =
       subst (λ (m : ℕ). Holding x t m r) (sym h)
       (record {
         table = ok;
         is = ap (λ ns. view_board (with_names ns x) r) (sym n);
         looks = subst (λ ns. Looks (with_names ns x) r) n (s.stays refl x l);
       })
-  holding (some a) n k l s h =
+  holding (Some a) n k l s h =
       subst (λ (m : ℕ). Holding x t m r) (sym h)
       (record {
         table = (lowered ok).ok;

@@ -1,6 +1,5 @@
 -- What the rest of a cycle says, where it is not refused and the engine does not stop.
-use Rattle.std.specs.Prelude.{ℕ, ◌≡◌, true, false, ◌||◌, List, [], ◌++◌, map, length}
-use Rattle.std.proofs.Math.Option.{Option}
+use Rattle.std.specs.Prelude.{ℕ, ◌≡◌, true, false, ◌||◌, List, [], ◌++◌, map, length, Option}
 use Rattle.laws.specs.Optional.{when_some}
 use Rattle.model.specs.Op.{Op}
 use Rattle.model.specs.Timeline.{Write}

@@ -4,7 +4,6 @@
 ghost use Rattle.std.specs.Prelude.{◌≡◌, ℕ, ◌*◌, ◌≤◌, length};
 ghost use Rattle.laws.specs.Optional.{when_some};
 ghost use Rattle.model.specs.Calls.{invitation, invitation_of};
-ghost use Rattle.op.specs.View.{view_maybe_number};
 ghost use Rattle.timeline.specs.View.{WindowOk};
 ghost use Rattle.tracks.specs.View.{tracks_of, TracksSized, TracksLent};
 ghost use Rattle.flight.specs.View.{Legend, view_queue, QueueOk};
@@ -20,7 +19,6 @@ use board::{Board, Sequencer};
 use config::Machine;
 use engine::Answer;
 use flight::Queue;
-use op::MaybeNumber;
 use timeline::{Tracks, Window};
 
 // The rows after a redirect, if there is one: an FL cell for each queued operation.
@@ -29,34 +27,31 @@ fn flushed_rows(
     fs: &mut [u64],
     window: Window,
     queue: Queue,
-    redirect: MaybeNumber,
+    redirect: Option<u64>,
     cells: &mut [u8],
 )
     requires window_ok { WindowOk window }
     requires tracks_lent { TracksLent ts.old fs.old }
     requires queue_ok { QueueOk queue }
     requires history_in_bounds { window.history * 200 ≤ length cells.old }
-    ensures tracks { (g : Legend) → Recorded window (dropped_cells (view_maybe_number redirect) (view_queue g queue)) (tracks_of ts.old fs.old) (tracks_of ts.new fs.new) }
-    ensures memory { (g : Legend) → Written window (dropped_cells (view_maybe_number redirect) (view_queue g queue)) (tracks_of ts.old fs.old) cells.old cells.new }
+    ensures tracks { (g : Legend) → Recorded window (dropped_cells redirect (view_queue g queue)) (tracks_of ts.old fs.old) (tracks_of ts.new fs.new) }
+    ensures memory { (g : Legend) → Written window (dropped_cells redirect (view_queue g queue)) (tracks_of ts.old fs.old) cells.old cells.new }
     ensures lent { TracksLent ts.new fs.new }
 {
-    match redirect {
-        MaybeNumber::Some(_) => recording::push_flushed(ts, fs, window, queue, cells),
-        MaybeNumber::Nothing => {}
+    if redirect.is_some() {
+        recording::push_flushed(ts, fs, window, queue, cells);
     }
 }
 
 // How many names are held after a cycle: with the queue dropped, those known.
-fn held_after(held: usize, known: usize, redirect: MaybeNumber) -> usize
-    ensures { result ≡ when_some (view_maybe_number redirect) held (λ (t : ℕ). known) }
+fn held_after(held: usize, known: usize, redirect: Option<u64>) -> usize
+    ensures { result ≡ when_some redirect held (λ (t : ℕ). known) }
 {
-    match redirect {
-        MaybeNumber::Some(_) => known,
-        MaybeNumber::Nothing => held,
-    }
+    redirect.map_or(held, |_| known)
 }
 
 // model: Calls.invitation_of
+#[tactic(auto, unfolding(engine::specs::View::view_answer, board::specs::View::view_board, model::specs::Calls::invitation_of))]
 fn invitation(board: Sequencer) -> Answer
     ensures { (x : Frame) (us : Units) → view_answer result ≡ invitation (invitation_of (view_board x (board_of board us))) }
 {
@@ -91,14 +86,14 @@ pub fn advanced(
     machine: Machine,
     known: usize,
     held: usize,
-    redirect: MaybeNumber,
+    redirect: Option<u64>,
     cells: &mut [u8],
 ) -> Rest
     requires sized { Sized us.old ss.old }
     requires tracks_sized { TracksSized ts.old fs.old }
     requires restable { Restable (board_of board (units_of us.old ss.old n)) (window_of next rows history) (tracks_of ts.old fs.old) machine }
-    ensures done { Rests (board_of board (units_of us.old ss.old n)) (window_of next rows history) (tracks_of ts.old fs.old) machine known held (view_maybe_number redirect) (length cells.old) (rested result (units_of us.new ss.new n) (tracks_of ts.new fs.new)) }
-    ensures memory { RestWrites (board_of board (units_of us.old ss.old n)) (window_of next rows history) (tracks_of ts.old fs.old) machine known held (view_maybe_number redirect) cells.old cells.new }
+    ensures done { Rests (board_of board (units_of us.old ss.old n)) (window_of next rows history) (tracks_of ts.old fs.old) machine known held redirect (length cells.old) (rested result (units_of us.new ss.new n) (tracks_of ts.new fs.new)) }
+    ensures memory { RestWrites (board_of board (units_of us.old ss.old n)) (window_of next rows history) (tracks_of ts.old fs.old) machine known held redirect cells.old cells.new }
     ensures units { Sized us.new ss.new }
     ensures tracks { TracksSized ts.new fs.new }
 {
@@ -131,22 +126,17 @@ pub fn advanced(
             answer: Answer::NoInvitation,
         };
     }
-    let queue = b.queue;
-    flushed_rows(ts, fs, window, queue, redirect, cells);
+    flushed_rows(ts, fs, window, b.queue, redirect, cells);
     let worked = cycle::stepped(b.redirected(redirect), us, ss, n);
     let issued = issuing::issue(worked, us, ss, n, machine);
     let after = issued.invite(us, ss, n, machine.depth);
-    let queue1 = after.queue;
-    recording::push_queue(ts, fs, window, queue1, cells);
+    recording::push_queue(ts, fs, window, after.queue, cells);
     recording::push_units(ts, fs, window, us, ss, n, cells);
-    let claims = after.claims;
-    let kept = held_after(held, known, redirect);
-    let answer = invitation(after);
     Rest {
         board: after,
-        known: claims.len,
-        held: kept,
-        answer,
+        known: after.claims.len,
+        held: held_after(held, known, redirect),
+        answer: invitation(after),
     }
 }
 
@@ -170,12 +160,12 @@ pub fn rest_of(
     machine: Machine,
     known: usize,
     held: usize,
-    redirect: MaybeNumber,
+    redirect: Option<u64>,
     cells: &mut [u8],
 ) -> Carried
     requires { Restable board (window_of next rows history) tracks machine }
-    ensures done { Rests board (window_of next rows history) tracks machine known held (view_maybe_number redirect) (length cells.old) (by_value result) }
-    ensures memory { RestWrites board (window_of next rows history) tracks machine known held (view_maybe_number redirect) cells.old cells.new }
+    ensures done { Rests board (window_of next rows history) tracks machine known held redirect (length cells.old) (by_value result) }
+    ensures memory { RestWrites board (window_of next rows history) tracks machine known held redirect cells.old cells.new }
 {
     let units = board.units;
     let n = units.len;
@@ -201,15 +191,11 @@ pub fn rest_of(
         redirect,
         cells,
     );
-    let after = r.board;
-    let answer = r.answer;
-    let b = after.board(slots::gathered(&us, &ss, n));
-    let t = tracks::gathered(&ts, &fs);
     Carried {
-        board: b,
-        tracks: t,
+        board: r.board.board(slots::gathered(&us, &ss, n)),
+        tracks: tracks::gathered(&ts, &fs),
         known: r.known,
         held: r.held,
-        answer,
+        answer: r.answer,
     }
 }

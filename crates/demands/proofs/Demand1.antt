@@ -1,7 +1,7 @@
 -- Demand 1 over the code, from demand 1 over the model and the contracts.
 use Prim.Native.Nat.{ℕ}
 use mathlib.Core.Path.{◌≡◌, refl, sym, ap, ◌∙◌}
-use mathlib.Core.Option.{Option, none, some}
+use Rattle.std.specs.Prelude.{Option, None, Some}
 use mathlib.Core.List.{List}
 use lib.ListN.{length}
 use Rattle.laws.specs.Optional.{when_some}
@@ -31,13 +31,13 @@ unfolding view_answer
 shows-refused e = ap view_answer e
 
 -- An answer that refuses comes from that refusal.
-refused-by : (s : State) (m : List ℕ) (c : Call) (k : ℕ) → answer s m c ≡ refused k → refusal s c ≡ some k
+refused-by : (s : State) (m : List ℕ) (c : Call) (k : ℕ) → answer s m c ≡ refused k → refusal s c ≡ Some k
 unfolding answer
 refused-by s m c k e = go (refusal s c) refl
   where
-    go : (o : Option ℕ) → refusal s c ≡ o → refusal s c ≡ some k
-    go none q = absurd ((model-demand-1.0 s m c).never_refused k (taken-checks s c q) e)
-    go (some j) q =
+    go : (o : Option ℕ) → refusal s c ≡ o → refusal s c ≡ Some k
+    go None q = absurd ((model-demand-1.0 s m c).never_refused k (taken-checks s c q) e)
+    go (Some j) q =
         let z : refused j ≡ refused k = sym (ap (λ (o : Option ℕ). when_some o (reply s m c) refused) q) ∙ e in q ∙ cc
 
 pub demand-1 : Demand1
@@ -65,24 +65,24 @@ is-done a.NotResolved e = cc
 is-done (a.Invitation t) e = cc
 is-done a.NoInvitation e = cc
 
-number-said : (o : Option ℕ) {x : Answer} {k : ℕ} → view_answer x ≡ when_some o done refused → x ≡ a.Refused k → o ≡ some k
-number-said none {x} {k} e q = let z : refused k ≡ done = sym (shows-refused q) ∙ e in cc
-number-said (some j) {x} {k} e q = let z : refused k ≡ refused j = sym (shows-refused q) ∙ e in cc
+number-said : (o : Option ℕ) {x : Answer} {k : ℕ} → view_answer x ≡ when_some o done refused → x ≡ a.Refused k → o ≡ Some k
+number-said None {x} {k} e q = let z : refused k ≡ done = sym (shows-refused q) ∙ e in cc
+number-said (Some j) {x} {k} e q = let z : refused k ≡ refused j = sym (shows-refused q) ∙ e in cc
 
-number-made : (o : Option ℕ) (s : State) {k : ℕ} → when_some o (made s) no_machine ≡ no_machine k → o ≡ some k
-number-made none s e = cc
-number-made (some j) s e = cc
+number-made : (o : Option ℕ) (s : State) {k : ℕ} → when_some o (made s) no_machine ≡ no_machine k → o ≡ Some k
+number-made None s e = cc
+number-made (Some j) s e = cc
 
-none_made : (o : Option ℕ) {s : State} → when_some o (made s) no_machine ≡ made s → o ≡ none
-none_made none e = refl
-none_made (some j) e = cc
+none_made : (o : Option ℕ) {s : State} → when_some o (made s) no_machine ≡ made s → o ≡ None
+none_made None e = refl
+none_made (Some j) e = cc
 
 pub demand-1-making : Demand1Making
 unfolding make make_memory
 demand-1-making d entry r m n z w =
     let o = make_refusal d (length m) in
     let t = model-making d entry m in
-    let by : (k : ℕ) → r.answer ≡ a.Refused k → o ≡ some k = λ k q. number-said o z.answer q in
+    let by : (k : ℕ) → r.answer ≡ a.Refused k → o ≡ Some k = λ k q. number-said o z.answer q in
     record {
       refused_first =
           λ k. (

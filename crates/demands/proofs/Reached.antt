@@ -1,6 +1,6 @@
 -- Every engine that a user can reach is valid, and there is one.
 use mathlib.Core.Path.{sym, ap}
-use mathlib.Core.Option.{Option}
+use Rattle.std.specs.Prelude.{Option}
 use Prim.Native.Nat.{ℕ}
 use Rattle.laws.specs.Optional.{when_some}
 use Rattle.model.specs.Calls.{done, refused}

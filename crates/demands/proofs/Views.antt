@@ -3,7 +3,7 @@ use Prim.Native.Nat.{ℕ, ◌≤◌, ◌<◌}
 use mathlib.Core.Path.{◌≡◌, refl, sym, ap₂, ◌∙◌}
 use mathlib.Core.Bool.{Bool, true, false, cond}
 use mathlib.Core.Logic.{⊎_elim}
-use mathlib.Core.Option.{Option, none, some}
+use Rattle.std.specs.Prelude.{Option, None, Some}
 use mathlib.Core.List.{List, [], ◌∷◌}
 use lib.ListN.{length}
 use Rattle.laws.specs.Optional.{when_some}
@@ -13,8 +13,7 @@ use Rattle.model.specs.State.{State}
 use Rattle.model.specs.Requests.{text_at, short_for, buffer_with}
 use Rattle.model.specs.Calls.{Answer, Call, text, checks, refusal, answer, reply, first_of, buffer_after}
 use Rattle.refusals.proofs.Demand1.{demand-1}
-use Rattle.traces.specs.declared.texts.Written.{Written}
-use Rattle.traces.specs.Texts.{written, text_answer, text_reply, Wrote}
+use Rattle.traces.specs.Texts.{Written, written, text_answer, text_reply, Wrote}
 use Rattle.traces.proofs.Written.{wrote_none, wrote-short, wrote-whole}
 use Rattle.scoreboard.specs.View.{view_engine}
 use Rattle.demands.specs.Demand1.{ViewRefusals, Demand1Cells, Demand1Texts}
@@ -43,8 +42,8 @@ answered
     : (o : Option Text) (lent : List ℕ) {out : List ℕ} {r : Written} → r ≡ written (length lent) o
     → out ≡ cond (short_for (length lent) o) lent (buffer_with o lent)
     → text_answer r out ≡ text_reply (length lent) o
-answered none lent e f = answered-by (wrote_none lent) e f
-answered (some t) lent e f =
+answered None lent e f = answered-by (wrote_none lent) e f
+answered (Some t) lent e f =
     ⊎_elim (λ (h : length lent < length t). answered-by (wrote-short t lent h) e f)
     (λ (h : length t ≤ length lent). answered-by (wrote-whole t lent h refl refl) e f)
     (lt-or-ge (length lent) (length t))

@@ -3,7 +3,7 @@ use Prim.Native.Nat.{ℕ, zero, suc}
 use mathlib.Core.Path.{◌≡◌, refl, sym, subst}
 use mathlib.Core.Bool.{true, false, false≢true}
 use mathlib.Core.Logic.{inr}
-use mathlib.Core.Option.{none}
+use Rattle.std.specs.Prelude.{Option, None}
 use mathlib.Core.List.{[], ◌∷◌}
 use native.Mathlib.Omega.{arith}
 use lib.ListN.{get_or, replicate}
@@ -17,18 +17,17 @@ use Rattle.model.specs.State.{new}
 use Rattle.model.specs.Calls.{make_refusal}
 use Rattle.invariant.specs.Invariant.{Invariant}
 use Rattle.invariant.proofs.Invariant.{invariant-made}
+use Rattle.op.specs.declared.chars.Chars.{Chars}
 use Rattle.op.specs.View.{views as op-views}
-use Rattle.op.specs.declared.MaybeNumber.TheVariants as number
 use Rattle.config.specs.declared.Spec.{Spec}
 use Rattle.config.specs.declared.Machine.{Machine}
 use Rattle.config.specs.View.{views as config-views, flag}
 use Rattle.config.specs.Kept.{SpecOk, MachineOk}
 use Rattle.config.specs.Checks.{nothing_declared}
-use Rattle.registers.specs.View.{views as registers-views, claimed, NameOk}
-use Rattle.flight.specs.declared.MaybeHazard.TheVariants.{Nothing}
-use Rattle.flight.specs.declared.Operands.{Operands}
-use Rattle.flight.specs.View.{flights, OperandsOk, QueuedOk}
-use Rattle.flight.specs.Pool.{no_decoded, no_texts, no_bytes, no_name, TextsOk}
+use Rattle.registers.specs.View.{views as registers-views, NameOk, OperandsOk}
+use Rattle.registers.specs.declared.Operands.{Operands}
+use Rattle.flight.specs.View.{flights, QueuedOk}
+use Rattle.flight.specs.Pool.{no_decoded, no_texts, TextsOk}
 use Rattle.timeline.specs.View.{no_text, first_track, no_rows, view_rows, from, TrackOk, RowTextOk}
 use Rattle.timeline.specs.declared.WaitForm.TheVariants.{Drains}
 use Rattle.units.specs.declared.Unit.{Unit as Slot}
@@ -47,6 +46,9 @@ use Rattle.scoreboard.specs.Valid.{Parts, Valid}
 
 -- ── Its parts ───────────────────────────────────────────────────────────────
 
+abbrev no_name : Chars 16
+no_name = record { bytes = replicate 16 0; len = 0 }
+
 abbrev no_operands : Operands
 no_operands = record { sources = replicate 8 0; destinations = replicate 4 0; sources_len = 0; destinations_len = 0 }
 
@@ -62,7 +64,7 @@ idle-slot =
       class = Unknown;
       redirects = false;
       busy = false;
-      progress = record { phase = Wait; hazard = Nothing; cycles_left = 0 };
+      progress = record { phase = Wait; hazard = None; cycles_left = 0 };
     }
 
 abbrev ex : Spec
@@ -83,7 +85,7 @@ plain-machine =
       timing = record { alu = 0; mul = 0; div = 0; load = 0; store = 0; system = 0; fp = 0 };
       depth = 1;
       history = 1;
-      instruction_bytes = number.Nothing;
+      instruction_bytes = None;
     }
 
 abbrev idle-board : Board
@@ -100,14 +102,14 @@ idle-board =
                   operands = no_operands;
                   class = Unknown;
                   branch = false;
-                  hazard = Nothing;
+                  hazard = None;
                   latency = 0;
                   place = 80;
                 });
             len = 0;
           };
       offer = record { writing = 64; retired = false };
-      claims = record { unit = replicate 256 255; len = 0 };
+      claims = record { unit = replicate 256 None; len = 0 };
       front = no_front;
       log =
           record {
@@ -130,7 +132,7 @@ idle-board =
           };
       marks = record { branch = false; system = false };
       gone = 80;
-      status = record { some = false; text = no_bytes };
+      status = None;
     }
 
 abbrev pub plain-engine : ScoreboardPipeline
@@ -161,15 +163,15 @@ idle-ok : UnitOk idle-slot
 idle-ok = record { operands = no_operands-ok; pending = record { count = omega arith; size = refl }; spec = omega arith; place = omega arith }
 
 board-ok : BoardOk idle-board
-unfolding slots listed claimed registers-views
+unfolding slots listed registers-views
 board-ok =
     record {
       units = record { few = omega arith; size = refl; each = All-replicate UnitOk 64 idle-slot idle-ok };
       queue = record { few = omega arith; size = refl; each = All-replicate QueuedOk 16 _ (record { operands = no_operands-ok; place = omega arith }) };
-      claims = record { count = omega arith; size = refl; free = All-replicate (λ (u : ℕ). claimed u ≡ none) 256 255 refl };
+      claims = record { count = omega arith; size = refl; free = All-replicate (λ (o : Option ℕ). o ≡ None) 256 None refl };
       log = record { few = omega arith; size = refl };
       offer = λ h. absurd (let z : ⊥ = omega arith in z);
-      status = λ h. omega arith;
+      status = tt;
       gone = omega arith;
       knows = (record { sources = tt; destinations = tt; pending = tt }, tt);
       known = tt;
@@ -192,7 +194,6 @@ ex-ok : SpecOk ex
 unfolding config-views everything op-views
 ex-ok =
     record {
-      bytes = refl;
       flags = refl;
       takes = all-taken;
       kind = record { named = refl; most = omega arith };
@@ -239,7 +240,7 @@ plain-parts =
       texts =
           record {
             size = refl;
-            each = All-replicate TextsOk 80 no_texts (record { text = omega arith; fault = λ e. omega arith; destination = λ e. omega arith });
+            each = All-replicate TextsOk 80 no_texts (record { text = omega arith; fault = tt; destination = tt });
           };
       history = refl;
       known = refl;
@@ -250,7 +251,7 @@ plain-parts =
       named = λ h. tt;
     }
 
-pub nothing-made : make_refusal nothing_declared 51200 ≡ none
+pub nothing-made : make_refusal nothing_declared 51200 ≡ None
 unfolding everything
 nothing-made = refl
 

@@ -1,32 +1,16 @@
 -- Demand 1 over the code. `Does e c r` is the contract of a call c on engine e with result r; the lent memory, m before, is n after.
-use Rattle.std.specs.Prelude.{ℕ, ◌≡◌, ◌↔◌, List, length}
+use Rattle.std.specs.Prelude.{ℕ, ◌≡◌, ◌↔◌, List, length, Option, Result}
 use Rattle.laws.specs.Lists.{All}
 use Rattle.model.specs.Config.{PipelineShape}
 use Rattle.model.specs.State.{State, new}
 use Rattle.model.specs.Timeline.{write_all}
 use Rattle.model.specs.Requests.{Request, text_at}
-use Rattle.model.specs.Calls.{
-  Answer,
-  refused,
-  Call,
-  cell,
-  text,
-  checks,
-  make_checks,
-  answer,
-  reply,
-  run,
-  sets,
-  memory_made,
-  memory_after,
-  make_memory,
-  buffer_after,
-}
+use Rattle.model.specs.Calls.{Answer, refused, Call, cell, text, checks, make_checks, answer, reply, run, sets, memory_made, memory_after, make_memory, buffer_after}
 use Rattle.refusals.specs.Refusals.{fails, First}
-use Rattle.timeline.specs.declared.cells.MaybeCell.{MaybeCell}
+use Rattle.capability.specs.declared.Refusal.{Refusal}
+use Rattle.timeline.specs.declared.cells.PipelineTimelineCell.{PipelineTimelineCell}
 use Rattle.timeline.specs.Cells.{cell_answer}
-use Rattle.traces.specs.declared.texts.Written.{Written}
-use Rattle.traces.specs.Texts.{written, text_answer}
+use Rattle.traces.specs.Texts.{Written, written, text_answer}
 use Rattle.scoreboard.specs.declared.ScoreboardPipeline.{ScoreboardPipeline}
 use Rattle.scoreboard.specs.declared.Next.{Next}
 use Rattle.engine.specs.declared.Answer.TheVariants.{Refused, Done}
@@ -70,7 +54,7 @@ pub record ViewRefusals (s : State) (m : List ℕ) (c : Call) (x : Answer) : Typ
 -- The memory of a cell view is lent to be read.
 abbrev pub Demand1Cells : Type 0
 Demand1Cells =
-    (e : ScoreboardPipeline) (row i : ℕ) (m : List ℕ) (r : MaybeCell) → cell_answer r ≡ answer (view_engine e) m (cell row i (length m))
+    (e : ScoreboardPipeline) (row i : ℕ) (m : List ℕ) (r : Result (Option PipelineTimelineCell) Refusal) → cell_answer r ≡ answer (view_engine e) m (cell row i (length m))
     → ViewRefusals (view_engine e) m (cell row i (length m)) (cell_answer r)
 
 -- The buffer of a text request, b before, is out after.

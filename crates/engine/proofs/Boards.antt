@@ -1,7 +1,7 @@
 -- An engine with another board: its parts, where nothing has moved, and where a cycle has opened.
 use mathlib.Core.Path.{◌≡◌, refl, sym, subst, ap, ◌∙◌}
 use mathlib.Core.Bool.{false, cond, ◌||◌}
-use mathlib.Core.Option.{Option, none, some}
+use Rattle.std.specs.Prelude.{Option, None, Some}
 use mathlib.Core.List.{List}
 use Prim.Native.Nat.{ℕ, ◌≤◌}
 use native.Mathlib.Omega.{arith}
@@ -113,9 +113,9 @@ pub no_offer-outside : {e : Engine} → Valid e → e.board.front.in_cycle ≡ f
 unfolding view_engine view_board
 no_offer-outside {e} v h = unclaimed (go (claimed e.board.offer.writing) refl)
   where
-    go : (o : Option ℕ) → claimed e.board.offer.writing ≡ o → claimed e.board.offer.writing ≡ none
-    go none q = q
-    go (some i) q = false-T e.board.front.in_cycle h (subst T (sym (v.invariant.offer_unit i q).0) tt)
+    go : (o : Option ℕ) → claimed e.board.offer.writing ≡ o → claimed e.board.offer.writing ≡ None
+    go None q = q
+    go (Some i) q = false-T e.board.front.in_cycle h (subst T (sym (v.invariant.offer_unit i q).0) tt)
 
 -- ── A call that answers done or a refusal ───────────────────────────────────
 
@@ -126,15 +126,15 @@ module _ {e : Engine} {c : Call} (v : Valid e) {no : ℕ} {a : Answer} {f : Engi
       → Parts r → Does e c (record { engine = f; answer = a })
   unfolding numbered
   settled-done r z q y t p =
-      let k : numbered no ≡ none = cond-eq none (some no) z in
+      let k : numbered no ≡ None = cond-eq None (Some no) z in
       subst (λ (x : Engine). Does e c (record { engine = x; answer = a })) (sym q)
       (does-taken v (sym n ∙ k) (λ m. d ∙ ap (λ (o : Option ℕ). when_some o done refused) k ∙ sym (y m)) t p)
 
   pub settled-refused : (no ≡ 0 → ⊥) → f ≡ e → Does e c (record { engine = f; answer = a })
   unfolding numbered answer after
   settled-refused z q =
-      let k : numbered no ≡ some no = cond-ne none (some no) z in
-      let h : refusal (view_engine e) c ≡ some no = sym n ∙ k in
+      let k : numbered no ≡ Some no = cond-ne None (Some no) z in
+      let h : refusal (view_engine e) c ≡ Some no = sym n ∙ k in
       record {
         answer =
             λ m. d ∙ ap (λ (o : Option ℕ). when_some o done refused) k

@@ -12,11 +12,13 @@ use Rattle.laws.proofs.Slices.{nth-take}
 use Rattle.model.specs.Op.{Op}
 use Rattle.model.specs.Registers.{name_of}
 use Rattle.model.specs.State.{log_of}
-use Rattle.op.specs.View.{view_maybe_text}
+use Rattle.op.specs.Chars.{view_text}
+use Rattle.std.specs.Prelude.{option_map}
 use Rattle.registers.specs.Look.{Queued as Along}
 use Rattle.registers.proofs.Look.{queue-laws}
 use Rattle.flight.specs.declared.Queued.{Queued}
-use Rattle.flight.specs.View.{carried_at, read, written, named, view_operands, view_queued, view_queue, entries}
+use Rattle.flight.specs.View.{carried_at, named, view_queued, view_queue, entries}
+use Rattle.registers.specs.View.{read, written, view_operands}
 use Rattle.flight.proofs.Entries.{view-entries}
 use Rattle.stalls.specs.declared.Trace.{Trace}
 use Rattle.stalls.specs.View.{word_at, number_word, listed, view_stats, view_log}
@@ -84,7 +86,7 @@ module _ (x : Frame) {b : Board} (ok : BoardOk b) (none : entries b.queue ≡ []
   dropped-names =
       state-by (units-agree x.legend less.legend b.units (units-same (slots b.units) ok.knows)) queue-same known_same refl refl refl
       refl
-      (ap (λ ws. log_of (view_stats b.log.stats) ws x.rows (view_maybe_text b.status))
+      (ap (λ ws. log_of (view_stats b.log.stats) ws x.rows (option_map view_text b.status))
       (waits-agree (log_frame x b) (log_frame less b) b.log.traces (waits-same (listed b.log.traces))))
 
 -- Nothing is queued, and the names held are those known.

@@ -1,4 +1,6 @@
 -- Two legends that agree where units, queue and waits look: these mean the same.
+use Rattle.capability.specs.declared.PipelineHazardKind.{PipelineHazardKind}
+use Rattle.std.specs.Prelude.{Option}
 use Prim.Native.Nat.{ℕ}
 use mathlib.Core.Path.{◌≡◌, sym, ap, ap₂, ◌∙◌}
 use mathlib.Core.Bool.{Bool}
@@ -8,11 +10,11 @@ use Rattle.laws.specs.Texts.{Text}
 use Rattle.laws.proofs.Slices.{take-map}
 use Rattle.model.specs.Op.{Op, op_of, core_of, decoded, info_of}
 use Rattle.model.specs.Units.{with_op}
-use Rattle.flight.specs.declared.Operands.{Operands}
-use Rattle.flight.specs.declared.MaybeHazard.{MaybeHazard}
+use Rattle.registers.specs.declared.Operands.{Operands}
 use Rattle.flight.specs.declared.Queued.{Queued}
 use Rattle.flight.specs.declared.Queue.{Queue}
-use Rattle.flight.specs.View.{Carried, Legend, carried_at, view_hazard, read, written, named, op_with, view_queued, view_queue, entries}
+use Rattle.flight.specs.View.{Carried, Legend, carried_at, named, op_with, view_queued, view_queue, entries}
+use Rattle.registers.specs.View.{read, written}
 use Rattle.flight.proofs.Entries.{view-entries}
 use Rattle.capability.specs.declared.PipelineInstructionClass.{PipelineInstructionClass}
 use Rattle.stalls.specs.declared.Trace.{Trace}
@@ -32,7 +34,7 @@ pub record Agree (g h : Legend) (place : ℕ) (x : Operands) : Type 0 where
 
 module _ (g h : Legend) where
   op-agrees
-      : {place : ℕ} {x : Operands} (seq : ℕ) (c : PipelineInstructionClass) (b : Bool) (z : MaybeHazard) (n : ℕ) → Agree g h place x
+      : {place : ℕ} {x : Operands} (seq : ℕ) (c : PipelineInstructionClass) (b : Bool) (z : Option PipelineHazardKind) (n : ℕ) → Agree g h place x
       → op_with (carried_at h place) h seq c b x z n ≡ op_with (carried_at g place) g seq c b x z n
   unfolding op_with
   op-agrees {place} {x} seq c b z n a =
@@ -41,7 +43,7 @@ module _ (g h : Legend) where
     where
       with_names : Carried → List Text → List Text → Op
       with_names k r w =
-          op_of (core_of (decoded k.address k.size c b k.atomic) seq seq (view_hazard z) n k.predicted_next)
+          op_of (core_of (decoded k.address k.size c b k.atomic) seq seq z n k.predicted_next)
           (info_of k.disassembly k.fault k.destination r w k.payload)
 
   abbrev pub UnitAgrees : Slot → Type 0

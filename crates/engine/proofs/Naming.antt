@@ -5,7 +5,8 @@ use mathlib.Core.List.{List, [], ◌∷◌, ◌++◌, map}
 use native.Mathlib.Omega.{arith}
 use lib.ListN.{length}
 use Rattle.laws.specs.Optional.{value_or}
-use Rattle.laws.specs.Lists.{All, nth}
+use Rattle.laws.specs.Lists.{All}
+use Rattle.std.specs.Prelude.{slice_get}
 use Rattle.laws.specs.Texts.{Text, bytes}
 use Rattle.laws.proofs.Slices.{nth-take}
 use Rattle.laws.proofs.Tests.{value_or-some}
@@ -19,7 +20,7 @@ use Rattle.registers.proofs.Look.{numbers-below, resolve-all}
 -- A number below the names that were held keeps its name.
 pub name-stays : (ns ls : List Text) → Begins ns ls → {r : ℕ} → r < length ns → name_of ls r ≡ name_of ns r
 unfolding name_of
-name-stays ns ls b {r} h = ap (value_or (bytes "?")) (sym (nth-take ls h) ∙ ap (λ l. nth l r) b)
+name-stays ns ls b {r} h = ap (value_or (bytes "?")) (sym (nth-take ls h) ∙ ap (λ l. slice_get l r) b)
 
 pub names-stay : (ns ls : List Text) → Begins ns ls → (rs : List ℕ) → All (λ (r : ℕ). r < length ns) rs → map (name_of ls) rs ≡ map (name_of ns) rs
 names-stay ns ls b [] a = refl

@@ -1,5 +1,5 @@
 -- What the engine means to the model, and what its answers are.
-use Rattle.std.proofs.Math.Option.{none, some}
+use Rattle.std.specs.Prelude.{None, Some}
 use Rattle.model.specs.State.{State}
 use Rattle.model.specs.Views.{OfferView as ModelOffer}
 use Rattle.model.specs.Calls.{Answer as ModelAnswer, refused, done, offered, resolved, invitation}
@@ -46,12 +46,12 @@ view_offer v =
 unfoldable pub view_answer : Answer → ModelAnswer
 view_answer (a.Refused n) = refused n
 view_answer a.Done = done
-view_answer (a.Offered v) = offered (some (view_offer v))
-view_answer a.NoOffer = offered none
-view_answer (a.Resolved t) = resolved (some t)
-view_answer a.NotResolved = resolved none
-view_answer (a.Invitation t) = invitation (some t)
-view_answer a.NoInvitation = invitation none
+view_answer (a.Offered v) = offered (Some (view_offer v))
+view_answer a.NoOffer = offered None
+view_answer (a.Resolved t) = resolved (Some t)
+view_answer a.NotResolved = resolved None
+view_answer (a.Invitation t) = invitation (Some t)
+view_answer a.NoInvitation = invitation None
 
 -- All of these unfold where a line says `unfolding shown`.
 unfoldable pub shown : Unit {0}

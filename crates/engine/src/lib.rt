@@ -39,6 +39,7 @@ pub enum Answer {
 }
 
 // Done, or refused with a number that is not 0.
+#[tactic(auto, unfolding(crate::specs::View::view_answer, checks::specs::Numbered::numbered))]
 pub fn done_or(no: u8) -> Answer
     ensures { view_answer result ≡ when_some (numbered no) done refused }
 {

@@ -3,7 +3,7 @@ use Prim.Native.Nat.{ℕ, ◌+◌, ◌%◌, ◌≤◌, ◌<◌, min}
 use mathlib.Core.Path.{◌≡◌, refl, sym, subst, ap, ap₂, ◌∙◌}
 use mathlib.Core.Bool.{Bool, true, false, cond, ◌||◌}
 use mathlib.Core.Logic.{◌⊎◌, inl, inr, ⊎_elim}
-use mathlib.Core.Option.{none}
+use Rattle.std.specs.Prelude.{None, Some, option_map}
 use mathlib.Core.List.{List, [], ◌∷◌, ◌++◌, map}
 use native.Mathlib.Omega.{arith}
 use lib.Dec.{eqb, ltb}
@@ -11,49 +11,36 @@ use lib.ListN.{length, set, take, length-set}
 use lib.Seq.{get_or-set_same, get_or-set_other, take-take}
 use borrow.Author.Tests.{eqb-true, eqb-false}
 use Rattle.laws.specs.Means.{Means}
-use Rattle.laws.specs.Lists.{All, any, count, elem}
+use Rattle.laws.specs.Lists.{All, count, elem}
+use Rattle.std.specs.List.{list_any}
 use Rattle.laws.specs.Texts.{Text}
 use Rattle.laws.specs.Numbers.{max64}
-use Rattle.laws.proofs.Tests.{cond-lt, cond_yes, true-or-false, or-neither}
+use Rattle.laws.proofs.Tests.{cond-lt, true-or-false, or-neither}
 use Rattle.laws.proofs.Slices.{take-map, All-set}
 use Rattle.laws.proofs.Maps.{map-append}
 use Rattle.model.specs.Config.{latency}
 use Rattle.model.specs.Op.{Op, op_of, core_of, info_of, sequential_address, first_word}
-use Rattle.model.specs.Registers.{Operands as Resolving, resolve}
+use Rattle.model.specs.Registers.{Operands as Resolving, operands, resolve}
 use Rattle.model.specs.Timeline.{row_of, open_row}
 use Rattle.model.specs.State.{front_of, log_of}
 use Rattle.model.specs.Scoreboard.{stops, next_address, fetched_op, fetched}
 use Rattle.op.specs.declared.PipelineOp.{PipelineOp}
-use Rattle.op.specs.View.{view_text, view_maybe_text, view_maybe_number, view_op}
+use Rattle.op.specs.Chars.{view_text}
+use Rattle.op.specs.View.{view_op}
 use Rattle.config.specs.View.{view_machine}
-use Rattle.registers.specs.declared.Resolved.{Resolved}
-use Rattle.registers.specs.View.{view_known, view_held, view_waits}
-use Rattle.registers.specs.Look.{numbers_of, Queued as Along}
-use Rattle.registers.specs.Promises.{view_resolved, ResolvedTo}
+use Rattle.registers.specs.declared.Operands.{Operands}
+use Rattle.registers.specs.declared.RegisterTable.{RegisterTable}
+use Rattle.registers.specs.View.{view_known, view_held, view_waits, read, written, view_operands}
+use Rattle.registers.specs.Look.{Queued as Along}
+use Rattle.registers.specs.Promises.{ResolvedTo}
 use Rattle.registers.proofs.Interning.{Begins}
 use Rattle.registers.proofs.NameTable.{held-length, known-length, known-held}
 use Rattle.registers.proofs.Queue.{fetch-queued}
-use Rattle.flight.specs.declared.MaybeHazard.TheVariants.{Nothing}
 use Rattle.flight.specs.declared.Queued.{Queued}
 use Rattle.flight.specs.declared.Queue.{Queue}
 use Rattle.flight.specs.declared.pool.Decoded.{Decoded}
 use Rattle.flight.specs.declared.pool.Texts.{Texts}
-use Rattle.flight.specs.View.{
-  Carried,
-  Legend,
-  nothing_carried,
-  carried_at,
-  view_carried,
-  view_hazard,
-  read,
-  written,
-  view_operands,
-  named,
-  op_with,
-  view_queued,
-  view_queue,
-  entries,
-}
+use Rattle.flight.specs.View.{Carried, Legend, nothing_carried, carried_at, view_carried, named, op_with, view_queued, view_queue, entries}
 use Rattle.flight.specs.Pool.{decoded_of, texts_of, no_decoded, no_texts, held_at, TextsOk}
 use Rattle.flight.specs.Promises.{Queues}
 use Rattle.flight.proofs.Entries.{queue-length}
@@ -76,32 +63,30 @@ use Rattle.board.proofs.Counting.{count-append, taken-count, names_more}
 use Rattle.engine.specs.Engine.{Engine}
 use Rattle.engine.specs.View.{legend_of, frame_of, view_engine}
 use Rattle.engine.specs.Valid.{Parts, Valid}
-use Rattle.fetching.specs.Fetching.{operands_of, Queueing, row_text, Fetchable, Accepts}
+use Rattle.fetching.specs.Fetching.{Queueing, row_text, Fetchable, Accepts}
 use Rattle.engine.proofs.Fits.{good-texts}
 use Rattle.engine.proofs.Legends.{UnitAgrees, EntryAgrees, units-agree, queue-agrees, WaitAgrees, waits-agree}
 use Rattle.engine.proofs.Naming.{names-stay, resolve-begins, reads-named, writes-named, Below, below_all, queue-below}
 
 -- ── A place that a list does not have ───────────────────────────────────────
 
-neither-any : {A : Type 0} (q : A → Bool) (s t : List A) → any q (s ++ t) ≡ false → (any q s ≡ false) × (any q t ≡ false)
-unfolding any
+neither-any : {A : Type 0} (q : A → Bool) (s t : List A) → list_any q (s ++ t) ≡ false → (list_any q s ≡ false) × (list_any q t ≡ false)
 neither-any q [] t h = (refl, h)
 neither-any q (x ∷ s) t h =
-    let o = or-neither (q x) (any q (s ++ t)) h in
+    let o = or-neither (q x) (list_any q (s ++ t)) h in
     let r = neither-any q s t o.1 in
     (ap₂ ◌||◌ o.0 r.0, r.1)
 
 apart-list : {A : Type 0} (p : ℕ) (f : A → ℕ) (l : List A) → elem p (map f l) ≡ false → All (λ (x : A). f x ≡ p → ⊥) l
-unfolding any
 apart-list p f [] h = tt
 apart-list p f (x ∷ l) h =
     let o = or-neither (eqb p (f x)) (elem p (map f l)) h in (λ e. eqb-false p (f x) o.0 (sym e), apart-list p f l o.1)
 
-none-count : {A : Type 0} (q : A → Bool) (l : List A) → any q l ≡ false → count q l ≡ 0
-unfolding any count
+none-count : {A : Type 0} (q : A → Bool) (l : List A) → list_any q l ≡ false → count q l ≡ 0
+unfolding count
 none-count q [] h = refl
 none-count q (x ∷ l) h =
-    let o = or-neither (q x) (any q l) h in
+    let o = or-neither (q x) (list_any q l) h in
     let c : ◌≡◌ {A = ℕ} (cond (q x) 1 0) 0 = ap (λ (t : Bool). cond t 1 0) o.0 in omega (arith, none-count q l o.1, c)
 
 -- ── Two legends ─────────────────────────────────────────────────────────────
@@ -180,26 +165,26 @@ next-board b pc k =
       status = b.status;
     }
 
-abbrev pub next-engine : Engine → Resolved → ℕ → ℕ → Queue → Decoded → Texts → Tracks → RowTexts → Window → Engine
-next-engine e x p pc k d t ts xs w =
+abbrev pub next-engine : Engine → RegisterTable → ℕ → ℕ → Queue → Decoded → Texts → Tracks → RowTexts → Window → Engine
+next-engine e u p pc k d t ts xs w =
     record {
       board = next-board e.board pc k;
       window = w;
       tracks = ts;
       decoded = record { items = set e.decoded.items p d };
       machine = e.machine;
-      table = x.table;
+      table = u;
       texts = record { items = set e.texts.items p t };
       rows = xs;
     }
 
 module _ {e : Engine} (v : Valid e) {o : PipelineOp} {lent : ℕ} (f : Fetchable e o lent)
-    {x : Resolved} (z : ResolvedTo e.table (view_op o).info x) (fits : x.fits ≡ true)
+    {names : RegisterTable} {x : Operands} (z : ResolvedTo e.table (view_op o).info names (Some x))
     {p pc cycles : ℕ} {q : Queued} {k : Queue} {d : Decoded} {t : Texts} {ts : Tracks} {y : RowText} {xs : RowTexts} {w : Window}
     (free : Free (taken_places e.board) p)
-    (next : pc ≡ sequential_address (view_maybe_number e.machine.instruction_bytes) (view_op o).decoded)
+    (next : pc ≡ sequential_address e.machine.instruction_bytes (view_op o).decoded)
     (slow : cycles ≡ latency (view_machine e.machine).times o.class)
-    (entry : Queueing (operands_of x) o e.window.next cycles p q)
+    (entry : Queueing x o e.window.next cycles p q)
     (queue : Queues k (entries e.board.queue ++ q ∷ []) (λ g. view_queue g e.board.queue ++ view_queued g q ∷ []))
     (decoded : d ≡ decoded_of o pc)
     (texts : t ≡ texts_of o)
@@ -208,7 +193,7 @@ module _ {e : Engine} (v : Valid e) {o : PipelineOp} {lent : ℕ} (f : Fetchable
     (rows : Means all_texts RowTextsOk xs (set e.rows.items (e.window.next % e.window.history) y))
     (window : Means the_window WindowOk w (opened e.window)) where
   abbrev r : Engine
-  r = next-engine e x p pc k d t ts xs w
+  r = next-engine e names p pc k d t ts xs w
 
   abbrev g : Legend
   g = legend_of e
@@ -219,17 +204,17 @@ module _ {e : Engine} (v : Valid e) {o : PipelineOp} {lent : ℕ} (f : Fetchable
   abbrev b : Board
   b = e.board
 
-  resolving : view_resolved x ≡ resolve (view_held e.table) (view_op o).info
-  resolving = z.is ∙ cond_yes _ _ fits
+  resolving : operands (read x) (written x) (view_held names) ≡ resolve (view_held e.table) (view_op o).info
+  resolving = z.is x refl
 
-  held : view_held x.table ≡ (resolve (view_held e.table) (view_op o).info).names
+  held : view_held names ≡ (resolve (view_held e.table) (view_op o).info).names
   held = ap (λ (m : Resolving). m.names) resolving
 
-  begins : Begins (view_held e.table) (view_held x.table)
+  begins : Begins (view_held e.table) (view_held names)
   begins = subst (Begins (view_held e.table)) (sym held) (resolve-begins (view_held e.table) (view_op o).info)
 
   same : (rs : List ℕ) → All (λ (n : ℕ). n < length (view_held e.table)) rs → named h rs ≡ named g rs
-  same rs a = names-stay (view_held e.table) (view_held x.table) begins rs a
+  same rs a = names-stay (view_held e.table) (view_held names) begins rs a
 
   other : (m : ℕ) → (m ≡ p → ⊥) → carried_at h m ≡ carried_at g m
   unfolding carried_at held_at
@@ -290,7 +275,7 @@ module _ {e : Engine} (v : Valid e) {o : PipelineOp} {lent : ℕ} (f : Fetchable
   names-kept : known_names (frame_of r) r.board ≡ known_names (frame_of e) b
   unfolding known_names
   names-kept =
-      sym (take-take b.claims.len (length (view_held e.table)) (view_held x.table) few-known) ∙ ap (take b.claims.len) begins
+      sym (take-take b.claims.len (length (view_held e.table)) (view_held names) few-known) ∙ ap (take b.claims.len) begins
 
   away : (m : ℕ) → (m ≡ 80) ⊎ (elem m (taken_places b) ≡ true) → m ≡ p → ⊥
   away m (inl i) s = omega (arith, free.there)
@@ -323,24 +308,24 @@ module _ {e : Engine} (v : Valid e) {o : PipelineOp} {lent : ℕ} (f : Fetchable
 
   abbrev built : ℕ → ℕ → List Text → List Text → Op
   built c n rs ws =
-      op_of (core_of (view_op o).decoded e.window.next e.window.next none c n)
+      op_of (core_of (view_op o).decoded e.window.next e.window.next None c n)
       (info_of (view_op o).info.disassembly (view_op o).info.fault (view_op o).info.destination rs ws (view_op o).info.payload)
 
-  reads : named h (read (operands_of x)) ≡ (view_op o).info.sources
+  reads : named h (read x) ≡ (view_op o).info.sources
   reads =
       ap₂ (λ ns rs. named (record { carried = h.carried; names = ns }) rs) held (ap (λ (m : Resolving). m.read) resolving)
       ∙ reads-named (view_held e.table) (view_op o).info
 
-  writes : named h (written (operands_of x)) ≡ (view_op o).info.writes
+  writes : named h (written x) ≡ (view_op o).info.writes
   writes =
       ap₂ (λ ns rs. named (record { carried = h.carried; names = ns }) rs) held (ap (λ (m : Resolving). m.written) resolving)
       ∙ writes-named (view_held e.table) (view_op o).info
 
   new-op : view_queued h q ≡ fetched_op (view_op o) (view_engine e)
-  unfolding view_queued op_with view_hazard view_op fetched_op next_address view_engine view_board view_machine
+  unfolding view_queued op_with view_op fetched_op next_address view_engine view_board view_machine
   new-op =
       ap (view_queued h) entry.is
-      ∙ ap (λ c. op_with c h e.window.next o.class o.branch (operands_of x) Nothing cycles) here
+      ∙ ap (λ c. op_with c h e.window.next o.class o.branch x None cycles) here
       ∙ ap₂ (built cycles pc) reads writes ∙ ap₂ (λ c n. built c n (view_op o).info.sources (view_op o).info.writes) slow next
 
   queue-is : view_queue h k ≡ view_queue g b.queue ++ fetched_op (view_op o) (view_engine e) ∷ []
@@ -364,7 +349,7 @@ module _ {e : Engine} (v : Valid e) {o : PipelineOp} {lent : ℕ} (f : Fetchable
   engine-is =
       state-by units-stay queue-is names-kept refl refl refl
       (ap₂ (λ a n. front_of b.front.enabled b.front.halted b.front.faulted b.front.in_cycle false a n n) next number)
-      (ap₂ (λ a l. log_of (view_stats b.log.stats) a l (view_maybe_text b.status)) waits-stay rows_are)
+      (ap₂ (λ a l. log_of (view_stats b.log.stats) a l (option_map view_text b.status)) waits-stay rows_are)
 
   -- ---- the parts
 
@@ -403,13 +388,13 @@ module _ {e : Engine} (v : Valid e) {o : PipelineOp} {lent : ℕ} (f : Fetchable
       ap (map (λ (a : Op). a.info)) queue-is ∙ map-append (λ (a : Op). a.info) (view_queue g b.queue) (fetched_op (view_op o) (view_engine e) ∷ [])
 
   numbers : map (λ (a : Queued). view_operands a.operands) (entries k)
-      ≡ map (λ (a : Queued). view_operands a.operands) (entries b.queue) ++ numbers_of (view_resolved x) ∷ []
+      ≡ map (λ (a : Queued). view_operands a.operands) (entries b.queue) ++ view_operands x ∷ []
   numbers =
       ap (map (λ (a : Queued). view_operands a.operands)) queue.entries
       ∙ map-append (λ (a : Queued). view_operands a.operands) (entries b.queue) (q ∷ [])
       ∙ ap (λ (a : Queued). map (λ (c : Queued). view_operands c.operands) (entries b.queue) ++ view_operands a.operands ∷ []) entry.is
 
-  known-count : x.table.known ≡ b.claims.len
+  known-count : names.known ≡ b.claims.len
   known-count = sym (known-length z.ok) ∙ ap length z.known ∙ known-length v.parts.table ∙ v.parts.known
 
   looks-still : Looks (frame_of r) r.board
@@ -417,9 +402,9 @@ module _ {e : Engine} (v : Valid e) {o : PipelineOp} {lent : ℕ} (f : Fetchable
       record {
         most = omega (arith, known-count, z.ok.known, held-length z.ok);
         queued =
-            subst (λ ns. Along ns (view_held x.table) (map (λ (a : Op). a.info) (view_queue h k)) (map (λ (a : Queued). view_operands a.operands) (entries k))) (z.known ∙ sym (known-view v) ∙ sym names-kept)
-            (subst (λ is. Along (view_known x.table) (view_held x.table) is (map (λ (a : Queued). view_operands a.operands) (entries k))) (sym infos)
-            (subst (λ js. Along (view_known x.table) (view_held x.table) (map (λ (a : Op). a.info) (view_queue g b.queue) ++ (view_op o).info ∷ []) js) (sym numbers) (fetch-queued (along v) z fits)));
+            subst (λ ns. Along ns (view_held names) (map (λ (a : Op). a.info) (view_queue h k)) (map (λ (a : Queued). view_operands a.operands) (entries k))) (z.known ∙ sym (known-view v) ∙ sym names-kept)
+            (subst (λ is. Along (view_known names) (view_held names) is (map (λ (a : Queued). view_operands a.operands) (entries k))) (sym infos)
+            (subst (λ js. Along (view_known names) (view_held names) (map (λ (a : Op). a.info) (view_queue g b.queue) ++ (view_op o).info ∷ []) js) (sym numbers) (fetch-queued (along v) z x refl)));
       }
 
   parts_are : Parts r

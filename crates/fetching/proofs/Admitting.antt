@@ -2,7 +2,7 @@
 use Prim.Native.Nat.{ℕ, ◌%◌}
 use mathlib.Core.Path.{◌≡◌, refl, sym, subst, ◌∙◌}
 use mathlib.Core.Bool.{false}
-use mathlib.Core.Option.{none, some}
+use Rattle.std.specs.Prelude.{None, Some}
 use mathlib.Core.List.{List}
 use lib.ListN.{length}
 use Rattle.laws.proofs.Tests.{cond-ne}
@@ -12,16 +12,14 @@ use Rattle.op.specs.declared.PipelineOp.{PipelineOp}
 use Rattle.op.specs.View.{view_op}
 use Rattle.config.specs.declared.Machine.{Machine}
 use Rattle.config.specs.View.{view_machine}
+use Rattle.registers.specs.declared.Operands.{Operands}
 use Rattle.registers.specs.declared.RegisterTable.{RegisterTable}
 use Rattle.registers.specs.Promises.{ResolvedTo}
 use Rattle.flight.specs.declared.pool.Decoded.{Decoded}
-use Rattle.flight.specs.declared.pool.DecodedPool.{DecodedPool}
 use Rattle.flight.specs.declared.pool.Texts.{Texts}
-use Rattle.flight.specs.declared.pool.TextPool.{TextPool}
 use Rattle.flight.specs.Pool.{decoded_of, texts_of}
 use Rattle.timeline.specs.declared.Tracks.{Tracks}
 use Rattle.timeline.specs.declared.RowText.{RowText}
-use Rattle.timeline.specs.declared.RowTexts.{RowTexts}
 use Rattle.timeline.specs.declared.Window.{Window}
 use Rattle.timeline.specs.View.{opened}
 use Rattle.checks.specs.Numbered.{numbered}
@@ -35,7 +33,7 @@ use Rattle.engine.specs.View.{view_engine}
 use Rattle.engine.specs.Valid.{Valid}
 use Rattle.engine.specs.Calls.{Does, Tells}
 use Rattle.fetching.specs.Fetching.{row_text}
-use Rattle.fetching.specs.Taking.{given, resolved_of, Holds, Takable, Takes, TakeWrites, engine_by, Admissible, admitted_engine, Admits, AdmitWrites}
+use Rattle.fetching.specs.Taking.{given, Holds, Takable, Takes, TakeWrites, engine_by, Admissible, admitted_engine, Admits, AdmitWrites}
 use Rattle.engine.proofs.Boards.{settled-refused}
 use Rattle.fetching.proofs.Fetches.{memory-stays}
 use Rattle.fetching.proofs.Holding.{holding, all-five}
@@ -48,7 +46,7 @@ module _ (b : Board) (w : Window) (ts : Tracks) (m : Machine) (t : RegisterTable
 
   abbrev pub Refuses : ℕ → ℕ → Type 0
   Refuses lent n =
-      (e : Engine) → Valid (engine_by b w ts m t e) → refusal (view_engine (engine_by b w ts m t e)) (fetch (view_op o) lent) ≡ some n
+      (e : Engine) → Valid (engine_by b w ts m t e) → refusal (view_engine (engine_by b w ts m t e)) (fetch (view_op o) lent) ≡ Some n
 
   pub refuses-all : {n lent : ℕ} → (n ≡ 0 → ⊥) → Refuses lent n
       → Admits b w ts m t o lent (record { board = b; tracks = ts; table = t; place = 80; no = n })
@@ -59,7 +57,7 @@ module _ (b : Board) (w : Window) (ts : Tracks) (m : Machine) (t : RegisterTable
         good = λ q. absurd (z q);
         next = λ q. absurd (z q);
         admits = λ q e v a y. absurd (z q);
-        refuses = λ q e v a y. settled-refused v (cond-ne none (some n) z ∙ sym (h e v)) y z refl;
+        refuses = λ q e v a y. settled-refused v (cond-ne None (Some n) z ∙ sym (h e v)) y z refl;
       }
 
   pub memory-all : {n : ℕ} (c : List ℕ) → Refuses (length c) n → AdmitWrites b w ts m t o c c
@@ -67,20 +65,20 @@ module _ (b : Board) (w : Window) (ts : Tracks) (m : Machine) (t : RegisterTable
 
   -- ── With the numbers of its registers ─────────────────────────────────────
 
-  module _ {read written : List ℕ} {cycles : ℕ} {after : RegisterTable} (slow : cycles ≡ latency (view_machine m).times o.class)
+  module _ {p : Operands} {cycles : ℕ} {after : RegisterTable} (slow : cycles ≡ latency (view_machine m).times o.class)
       (x : bad_info (view_op o).info ≡ false → too_many (view_op o).info ≡ false
-      → ResolvedTo t (view_op o).info (resolved_of (given b w ts read written m.instruction_bytes cycles o) after)) where
+      → ResolvedTo t (view_op o).info after (Some p)) where
     every : (e : Engine) → Valid (engine_by b w ts m t e)
-        → Holds (given b w ts read written m.instruction_bytes cycles o) (engine_by b w ts m t e) after
+        → Holds (given b w ts p m.instruction_bytes cycles o) (engine_by b w ts m t e) after
     every e v = holding v refl slow x
 
-    pub takable-by : Admissible b w ts m t → Takable (given b w ts read written m.instruction_bytes cycles o)
+    pub takable-by : Admissible b w ts m t → Takable (given b w ts p m.instruction_bytes cycles o)
     takable-by k = record { engine = engine_by b w ts m t k.engine; after = after; holds = every k.engine k.valid }
 
-    pub writes-by : (c d : List ℕ) → TakeWrites (given b w ts read written m.instruction_bytes cycles o) c d → AdmitWrites b w ts m t o c d
+    pub writes-by : (c d : List ℕ) → TakeWrites (given b w ts p m.instruction_bytes cycles o) c d → AdmitWrites b w ts m t o c d
     writes-by c d k e v = k (engine_by b w ts m t e) after (every e v)
 
-    module _ {lent : ℕ} {r : Intake} {us : Tracks} (k : Takes (given b w ts read written m.instruction_bytes cycles o) lent r us) where
+    module _ {lent : ℕ} {r : Intake} {us : Tracks} (k : Takes (given b w ts p m.instruction_bytes cycles o) lent r us) where
       pub admits-not : (r.no ≡ 0 → ⊥) → Admits b w ts m t o lent (record { board = b; tracks = ts; table = t; place = 80; no = r.no })
       admits-not z =
           record {
@@ -124,18 +122,3 @@ pub does-admit
 does-admit {e} v {o} {lent} {r} k z {a = a} p q m i j y =
     all-five (λ w s d t x. Does e (fetch (view_op o) lent) (record { engine = admitted_engine r w e.machine s d t x e; answer = a })) p q m i j
     (k.admits z e v a y)
-
--- ── What the caller keeps in variables of their own ─────────────────────────
-
-pub all-four
-    : (P : Window → DecodedPool → TextPool → RowTexts → Type 0) {w v : Window} {d c : DecodedPool} {t u : TextPool} {x y : RowTexts}
-    → w ≡ v → d ≡ c → t ≡ u → x ≡ y → P v c u y → P w d t x
-all-four P {w} {d = d} {c} {t} {u} {y = y} p q i j k =
-    subst (P w d t) (sym j)
-    (subst (λ (z : TextPool). P w d z y) (sym i)
-    (subst (λ (z : DecodedPool). P w z u y) (sym q)
-    (subst (λ (z : Window). P z c u y) (sym p) k)))
-
-abbrev pub after-fetch : Admitted → Engine → Window → DecodedPool → TextPool → RowTexts → Engine
-after-fetch r e w ds ts ls =
-    record { board = r.board; window = w; tracks = r.tracks; decoded = ds; machine = e.machine; table = r.table; texts = ts; rows = ls }

@@ -1,15 +1,15 @@
 -- A fetch of an engine, by its parts.
+use Rattle.std.specs.Prelude.{Option, Some}
 use Prim.Native.Nat.{ℕ, ◌%◌, ◌<◌}
 use mathlib.Core.Path.{◌≡◌, sym, subst}
 use mathlib.Core.Bool.{false}
-use mathlib.Core.List.{List}
 use native.Mathlib.Omega.{arith}
 use Rattle.model.specs.Config.{latency}
 use Rattle.model.specs.Calls.{fetch, bad_info, too_many}
-use Rattle.op.specs.declared.MaybeNumber.{MaybeNumber}
 use Rattle.op.specs.declared.PipelineOp.{PipelineOp}
 use Rattle.op.specs.View.{view_op}
 use Rattle.config.specs.View.{view_machine}
+use Rattle.registers.specs.declared.Operands.{Operands}
 use Rattle.registers.specs.declared.RegisterTable.{RegisterTable}
 use Rattle.registers.specs.Promises.{ResolvedTo}
 use Rattle.flight.specs.declared.pool.Decoded.{Decoded}
@@ -25,18 +25,18 @@ use Rattle.fetching.specs.declared.Intake.{Intake}
 use Rattle.engine.specs.Valid.{Valid}
 use Rattle.engine.specs.Calls.{Does, Tells}
 use Rattle.fetching.specs.Fetching.{row_text}
-use Rattle.fetching.specs.Taking.{Given, given, parts_of, resolved_of, Holds, Takable, taken_engine, Takes}
+use Rattle.fetching.specs.Taking.{Given, given, parts_of, Holds, Takable, taken_engine, Takes}
 
 module _ {e : Engine} (v : Valid e) where
   -- The engine holds what it gives.
-  module _ {read written : List ℕ} {fixed : MaybeNumber} {cycles : ℕ} {o : PipelineOp} {after : RegisterTable}
+  module _ {p : Operands} {fixed : Option ℕ} {cycles : ℕ} {o : PipelineOp} {after : RegisterTable}
       (q : e.machine.instruction_bytes ≡ fixed) (s : cycles ≡ latency (view_machine e.machine).times o.class)
       (x : bad_info (view_op o).info ≡ false → too_many (view_op o).info ≡ false
-      → ResolvedTo e.table (view_op o).info (resolved_of (given e.board e.window e.tracks read written fixed cycles o) after)) where
-    pub holding : Holds (given e.board e.window e.tracks read written fixed cycles o) e after
+      → ResolvedTo e.table (view_op o).info after (Some p)) where
+    pub holding : Holds (given e.board e.window e.tracks p fixed cycles o) e after
     holding = record { valid = v; fixed = q; slow = s; numbers = x }
 
-    pub takable : Takable (given e.board e.window e.tracks read written fixed cycles o)
+    pub takable : Takable (given e.board e.window e.tracks p fixed cycles o)
     takable = record { engine = e; after = after; holds = holding }
 
 -- What a caller of a fetch sets is what it is to be.

@@ -2,7 +2,7 @@
 use Prim.Native.Nat.{ℕ, ◌+◌, ◌*◌, ◌%◌, ◌≤◌, ◌<◌}
 use mathlib.Core.Path.{◌≡◌, refl, sym, ap, ◌∙◌}
 use mathlib.Core.Bool.{true, false, not}
-use mathlib.Core.Option.{none, some}
+use Rattle.std.specs.Prelude.{Option, None, Some}
 use mathlib.Core.List.{List, [], ◌∷◌, ◌++◌}
 use native.Mathlib.Omega.{arith}
 use lib.Dec.{ltb}
@@ -13,10 +13,11 @@ use Rattle.laws.proofs.Slices.{All-set}
 use Rattle.model.specs.Op.{sequential_address}
 use Rattle.model.specs.Timeline.{write_all, open_writes}
 use Rattle.model.specs.Calls.{Check, first_of, fetch, refusal, run, reply}
-use Rattle.op.specs.declared.MaybeNumber.{MaybeNumber}
 use Rattle.op.specs.declared.PipelineOp.{PipelineOp}
-use Rattle.op.specs.View.{view_maybe_number, view_op}
+use Rattle.op.specs.View.{view_op}
+use Rattle.registers.specs.declared.Operands.{Operands}
 use Rattle.registers.specs.declared.RegisterTable.{RegisterTable}
+use Rattle.registers.specs.View.{OperandsOk}
 use Rattle.registers.specs.Promises.{ResolvedTo}
 use Rattle.flight.specs.declared.Queued.{Queued}
 use Rattle.flight.specs.declared.Queue.{Queue}
@@ -34,8 +35,8 @@ use Rattle.board.specs.Promises.{taken_places}
 use Rattle.engine.specs.Engine.{Engine}
 use Rattle.fetching.specs.declared.Intake.{Intake}
 use Rattle.engine.specs.View.{view_engine}
-use Rattle.fetching.specs.Fetching.{operands_by, Queueing, row_text, Fetchable}
-use Rattle.fetching.specs.Taking.{Given, given, parts_of, resolved_of, Holds, Takable, Takes, TakeWrites}
+use Rattle.fetching.specs.Fetching.{Queueing, row_text, Fetchable}
+use Rattle.fetching.specs.Taking.{Given, given, parts_of, Holds, Takable, Takes, TakeWrites}
 use Rattle.engine.proofs.Fits.{good-text}
 use Rattle.engine.proofs.Boards.{settled-done, settled-refused}
 use Rattle.fetching.proofs.Accepting.{queue-room, flight-few, accepting}
@@ -47,14 +48,13 @@ pub record Loan : Type 0 where
   pub units : Units
   pub window : Window
   pub tracks : Tracks
-  pub sources : List ℕ
-  pub destinations : List ℕ
-  pub fixed : MaybeNumber
+  pub operands : Operands
+  pub fixed : Option ℕ
   pub cycles : ℕ
   pub op : PipelineOp
 
 abbrev pub given-of : Loan → Given
-given-of l = given (board_of l.board l.units) l.window l.tracks l.sources l.destinations l.fixed l.cycles l.op
+given-of l = given (board_of l.board l.units) l.window l.tracks l.operands l.fixed l.cycles l.op
 
 -- The checks before the names, and the one after them.
 abbrev pub before-names : Loan → List Check
@@ -64,8 +64,8 @@ abbrev pub after-names : Loan → ℕ → List Check
 after-names l lent = (10, not true) ∷ (13, ltb lent (l.window.history * 200)) ∷ []
 
 -- The first checks pass: the operation is resolved.
-resolves : (l : Loan) → first_of (before-names l) ≡ none → {e : Engine} {t : RegisterTable} → Holds (given-of l) e t
-    → ResolvedTo e.table (view_op l.op).info (resolved_of (given-of l) t)
+resolves : (l : Loan) → first_of (before-names l) ≡ None → {e : Engine} {t : RegisterTable} → Holds (given-of l) e t
+    → ResolvedTo e.table (view_op l.op).info t (Some l.operands)
 resolves l h k = let f = operation-fine (given-of l).board l.window.next l.op h in k.numbers f.0 f.1
 
 -- ── Refused ─────────────────────────────────────────────────────────────────
@@ -78,7 +78,7 @@ module _ (l : Loan) {n : ℕ} (z : n ≡ 0 → ⊥) where
   refusing
       : {lent : ℕ}
       → ((e : Engine) (t : RegisterTable) → Holds (given-of l) e t
-      → refusal (view_engine (parts_of (given-of l) e)) (fetch (view_op l.op) lent) ≡ some n)
+      → refusal (view_engine (parts_of (given-of l) e)) (fetch (view_op l.op) lent) ≡ Some n)
       → Takes (given-of l) lent (no-intake l n) l.tracks
   unfolding numbered
   refusing h =
@@ -88,11 +88,11 @@ module _ (l : Loan) {n : ℕ} (z : n ≡ 0 → ⊥) where
         next = λ q. absurd (z q);
         takes = λ q e f k a t. absurd (z q);
         left = λ q. (refl, refl);
-        refuses = λ q e f k a t. settled-refused k.valid (cond-ne none (some n) z ∙ sym (h e f k)) t z refl;
+        refuses = λ q e f k a t. settled-refused k.valid (cond-ne None (Some n) z ∙ sym (h e f k)) t z refl;
       }
 
   -- By the first checks.
-  module _ (h : first_of (before-names l) ≡ some n) where
+  module _ (h : first_of (before-names l) ≡ Some n) where
     pub refuses-first : {lent : ℕ} → Takes (given-of l) lent (no-intake l n) l.tracks
     refuses-first {lent} = refusing (λ e f k. refused_first k.valid l.op lent h)
 
@@ -100,11 +100,11 @@ module _ (l : Loan) {n : ℕ} (z : n ≡ 0 → ⊥) where
     memory-first m e f k = memory-stays k.valid l.op m (refused_first k.valid l.op (length m) h)
 
   -- By the last.
-  module _ (h : first_of (before-names l) ≡ none) where
-    pub refuses-last : {lent : ℕ} → first_of (after-names l lent) ≡ some n → Takes (given-of l) lent (no-intake l n) l.tracks
+  module _ (h : first_of (before-names l) ≡ None) where
+    pub refuses-last : {lent : ℕ} → first_of (after-names l lent) ≡ Some n → Takes (given-of l) lent (no-intake l n) l.tracks
     refuses-last {lent} q = refusing (λ e f k. second k.valid l.op lent (resolves l h k) h ∙ q)
 
-    pub memory-last : (m : List ℕ) → first_of (after-names l (length m)) ≡ some n → TakeWrites (given-of l) m m
+    pub memory-last : (m : List ℕ) → first_of (after-names l (length m)) ≡ Some n → TakeWrites (given-of l) m m
     memory-last m q e f k = memory-stays k.valid l.op m (second k.valid l.op (length m) (resolves l h k) h ∙ q)
 
 -- ── Taken ───────────────────────────────────────────────────────────────────
@@ -140,12 +140,12 @@ intake l p pc u =
       no = 0;
     }
 
-module _ (l : Loan) (lent : ℕ) (h : first_of (before-names l) ≡ none) (q : first_of (after-names l lent) ≡ none) where
+module _ (l : Loan) (lent : ℕ) (h : first_of (before-names l) ≡ None) (q : first_of (after-names l lent) ≡ None) where
   module _ {e : Engine} {t : RegisterTable} (k : Holds (given-of l) e t) where
     fine : Fetchable (parts_of (given-of l) e) l.op lent
     fine = fetchable k.valid l.op lent (resolves l h k) h q
 
-    taken-all : refusal (view_engine (parts_of (given-of l) e)) (fetch (view_op l.op) lent) ≡ none
+    taken-all : refusal (view_engine (parts_of (given-of l) e)) (fetch (view_op l.op) lent) ≡ None
     taken-all = second k.valid l.op lent (resolves l h k) h ∙ q
 
   module _ (w : Takable (given-of l)) where
@@ -158,15 +158,12 @@ module _ (l : Loan) (lent : ℕ) (h : first_of (before-names l) ≡ none) (q : f
     pub room-there : l.window.history * 200 ≤ lent
     room-there = (fine w.holds).room
 
-    pub few-reads : l.op.sources_len ≤ 8
-    few-reads = (resolves l h w.holds).numbers.sources
-
-    pub few-writes : l.op.writes_len ≤ 4
-    few-writes = (resolves l h w.holds).numbers.destinations
+    pub numbers_ok : OperandsOk l.operands
+    numbers_ok = (resolves l h w.holds).numbers
 
   module _ {p pc : ℕ} {x : Queued} {u : Queue} {ts : Tracks} (free : Free (taken_places (given-of l).board) p)
-      (next : pc ≡ sequential_address (view_maybe_number l.fixed) (view_op l.op).decoded)
-      (entry : Queueing (operands_by l.sources l.destinations l.op) l.op l.window.next l.cycles p x)
+      (next : pc ≡ sequential_address l.fixed (view_op l.op).decoded)
+      (entry : Queueing l.operands l.op l.window.next l.cycles p x)
       (queue : Queues u (entries l.board.queue ++ x ∷ []) (λ m. view_queue m l.board.queue ++ view_queued m x ∷ []))
       (tracks : Means all_tracks TracksOk ts (set l.tracks.items (l.window.next % l.window.history) (first_track l.board.log.stats.cycles)))
       (size : length l.op.disassembly.bytes ≡ 64) where
@@ -191,8 +188,8 @@ module _ (l : Loan) (lent : ℕ) (h : first_of (before-names l) ≡ none) (q : f
           takes =
               λ i e f k a t.
               let c =
-              accepting k.valid (fine k) (resolves l h k) refl free
-              (next ∙ ap (λ (n : MaybeNumber). sequential_address (view_maybe_number n) (view_op l.op).decoded) (sym k.fixed))
+              accepting k.valid (fine k) (resolves l h k) free
+              (next ∙ ap (λ (n : Option ℕ). sequential_address n (view_op l.op).decoded) (sym k.fixed))
               k.slow entry queue refl refl tracks (record { is = refl; ok = text-ok k }) (record { is = refl; ok = rows_ok k })
               (record { is = refl; ok = window-opened k.valid.parts.window }) in
               settled-done k.valid (sym (taken-all k)) t _ refl refl (λ m. refl) c.is c.parts;
@@ -201,6 +198,6 @@ module _ (l : Loan) (lent : ℕ) (h : first_of (before-names l) ≡ none) (q : f
         }
 
 pub memory-taken
-    : (l : Loan) → first_of (before-names l) ≡ none → (m : List ℕ) → first_of (after-names l (length m)) ≡ none → {n : List ℕ}
+    : (l : Loan) → first_of (before-names l) ≡ None → (m : List ℕ) → first_of (after-names l (length m)) ≡ None → {n : List ℕ}
     → n ≡ write_all (open_writes l.window.history l.window.next) m → TakeWrites (given-of l) m n
 memory-taken l h m q i e f k = i ∙ memory-opens k.valid l.op m (taken-all l (length m) h q k)

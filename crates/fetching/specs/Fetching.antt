@@ -1,34 +1,17 @@
 -- What the steps of a fetch say.
-use Rattle.std.specs.Prelude.{ℕ, ◌*◌, ◌≤◌, ◌<◌, ◌≡◌, true, false, List}
+use Rattle.std.specs.Prelude.{ℕ, ◌*◌, ◌≤◌, ◌<◌, ◌≡◌, true, false, None}
 use Rattle.laws.specs.Numbers.{max64}
 use Rattle.model.specs.Calls.{bad_info}
 use Rattle.model.specs.Scoreboard.{fetched}
 use Rattle.op.specs.declared.PipelineOp.{PipelineOp}
 use Rattle.op.specs.View.{view_op}
-use Rattle.registers.specs.declared.Resolved.{Resolved}
-use Rattle.flight.specs.declared.MaybeHazard.TheVariants.{Nothing}
-use Rattle.flight.specs.declared.Operands.{Operands}
+use Rattle.registers.specs.declared.Operands.{Operands}
 use Rattle.flight.specs.declared.Queued.{Queued}
 use Rattle.flight.specs.View.{QueuedOk}
 use Rattle.timeline.specs.declared.RowText.{RowText}
 use Rattle.engine.specs.Engine.{Engine}
 use Rattle.engine.specs.View.{view_engine}
 use Rattle.engine.specs.Valid.{Parts}
-
--- The numbers of an operation's registers.
-abbrev pub operands_of : Resolved → Operands
-operands_of r =
-    record {
-      sources = r.sources;
-      destinations = r.destinations;
-      sources_len = r.sources_len;
-      destinations_len = r.destinations_len;
-    }
-
--- As many as it has.
-abbrev pub operands_by : List ℕ → List ℕ → PipelineOp → Operands
-operands_by read written o =
-    record { sources = read; destinations = written; sources_len = o.sources_len; destinations_len = o.writes_len }
 
 -- The entry of an operation, by the numbers of its registers.
 abbrev pub entry_of : Operands → PipelineOp → ℕ → ℕ → ℕ → Queued
@@ -38,7 +21,7 @@ entry_of p o seq latency place =
       operands = p;
       class = o.class;
       branch = o.branch;
-      hazard = Nothing;
+      hazard = None;
       latency = latency;
       place = place;
     }

@@ -1,15 +1,14 @@
 -- What a fetch by parts says: it is the fetch of every engine with these parts, once its place in the pool and its row are set.
-use Rattle.std.specs.Prelude.{ℕ, ◌%◌, ◌<◌, ◌≡◌, true, false, List, length, set}
+use Rattle.std.specs.Prelude.{ℕ, ◌%◌, ◌<◌, ◌≡◌, false, List, length, set, Option, Some}
 use Rattle.laws.specs.Numbers.{max64}
 use Rattle.model.specs.Config.{latency}
 use Rattle.model.specs.Calls.{fetch, bad_info, too_many, memory_after}
-use Rattle.op.specs.declared.MaybeNumber.{MaybeNumber}
 use Rattle.op.specs.declared.PipelineOp.{PipelineOp}
 use Rattle.op.specs.View.{view_op}
 use Rattle.config.specs.declared.Machine.{Machine}
 use Rattle.config.specs.View.{view_machine}
 use Rattle.registers.specs.declared.RegisterTable.{RegisterTable}
-use Rattle.registers.specs.declared.Resolved.{Resolved}
+use Rattle.registers.specs.declared.Operands.{Operands}
 use Rattle.registers.specs.Promises.{ResolvedTo}
 use Rattle.flight.specs.declared.pool.Decoded.{Decoded}
 use Rattle.flight.specs.declared.pool.Texts.{Texts}
@@ -35,15 +34,14 @@ pub record Given : Type 0 where
   pub board : Board
   pub window : Window
   pub tracks : Tracks
-  pub sources : List ℕ
-  pub destinations : List ℕ
-  pub fixed : MaybeNumber
+  pub operands : Operands
+  pub fixed : Option ℕ
   pub cycles : ℕ
   pub op : PipelineOp
 
-abbrev pub given : Board → Window → Tracks → List ℕ → List ℕ → MaybeNumber → ℕ → PipelineOp → Given
-given b w ts read written fixed cycles o =
-    record { board = b; window = w; tracks = ts; sources = read; destinations = written; fixed = fixed; cycles = cycles; op = o }
+abbrev pub given : Board → Window → Tracks → Operands → Option ℕ → ℕ → PipelineOp → Given
+given b w ts x fixed cycles o =
+    record { board = b; window = w; tracks = ts; operands = x; fixed = fixed; cycles = cycles; op = o }
 
 -- The engine with these parts, else as it is.
 abbrev pub parts_of : Given → Engine → Engine
@@ -59,18 +57,6 @@ parts_of g e =
       rows = e.rows;
     }
 
--- The operation resolved to its numbers, with this table after it.
-abbrev pub resolved_of : Given → RegisterTable → Resolved
-resolved_of g t =
-    record {
-      fits = true;
-      table = t;
-      sources = g.sources;
-      sources_len = g.op.sources_len;
-      destinations = g.destinations;
-      destinations_len = g.op.writes_len;
-    }
-
 -- With the parts the engine is valid, the numbers are its machine's, and those of the registers its table's, which the fetch leaves as `after`.
 pub record Holds (g : Given) (e : Engine) (after : RegisterTable) : Type 0 where
   pub valid : Valid (parts_of g e)
@@ -78,7 +64,7 @@ pub record Holds (g : Given) (e : Engine) (after : RegisterTable) : Type 0 where
   pub slow : g.cycles ≡ latency (view_machine e.machine).times g.op.class
   pub numbers
       : bad_info (view_op g.op).info ≡ false → too_many (view_op g.op).info ≡ false
-      → ResolvedTo e.table (view_op g.op).info (resolved_of g after)
+      → ResolvedTo e.table (view_op g.op).info after (Some g.operands)
 
 -- There is such an engine.
 pub record Takable (g : Given) : Type 0 where

@@ -4,49 +4,35 @@
 ghost use Rattle.std.specs.Prelude.{◌≡◌, length, false, ◌<◌, ◌≤◌};
 ghost use Rattle.laws.specs.Means.{Means};
 ghost use Rattle.model.specs.Calls.{bad_info};
+ghost use Rattle.registers.specs.View.{OperandsOk};
 ghost use Rattle.timeline.specs.View.{RowTextOk};
 ghost use Rattle.op.specs.View.{view_op};
 ghost use Rattle.tracks.specs.View.{tracks_of, TracksSized};
 ghost use Rattle.slots.specs.View.{units_of, Sized};
 ghost use Rattle.board.specs.View.{board_of};
 ghost use Rattle.engine.specs.Engine.{window_of};
-ghost use Rattle.fetching.specs.Fetching.{row_text, operands_by, Queueing};
+ghost use Rattle.fetching.specs.Fetching.{row_text, Queueing};
 ghost use Rattle.fetching.specs.Taking.{given, Takable, Takes, TakeWrites, Admissible, Admits, AdmitWrites};
 
 use board::{Board, Sequencer};
 use config::Machine;
-use flight::{MaybeHazard, Operands, Queued};
-use op::{MaybeNumber, PipelineOp};
+use flight::{Operands, Queued};
+use op::PipelineOp;
 use registers::RegisterTable;
 use timeline::{RowText, Tracks, Window};
 
 // model: Scoreboard.fetched_op
-fn queued(
-    sources: [u8; 8],
-    destinations: [u8; 4],
-    op: PipelineOp,
-    seq: u64,
-    latency: u8,
-    place: usize,
-) -> Queued
-    requires sources_len_bound { op.sources_len ≤ 8 }
-    requires writes_len_bound { op.writes_len ≤ 4 }
+fn queued(operands: Operands, op: PipelineOp, seq: u64, latency: u8, place: usize) -> Queued
+    requires operands_ok { OperandsOk operands }
     requires place_bound { place < 80 }
-    ensures { Queueing (operands_by sources destinations op) op seq latency place result }
+    ensures { Queueing operands op seq latency place result }
 {
-    let class = op.class;
-    let operands = Operands {
-        sources,
-        destinations,
-        sources_len: op.sources_len,
-        destinations_len: op.writes_len,
-    };
     Queued {
         seq,
         operands,
-        class,
+        class: op.class,
         branch: op.branch,
-        hazard: MaybeHazard::Nothing,
+        hazard: None,
         latency,
         place: place as u8,
     }
@@ -57,13 +43,11 @@ pub fn row_of(op: PipelineOp) -> RowText
     requires { bad_info (view_op op).info ≡ false }
     ensures { Means (λ (x : RowText). x) RowTextOk result (row_text op) }
 {
-    let class = op.class;
-    let disassembly = op.disassembly;
     RowText {
         address: op.address,
-        class,
+        class: op.class,
         atomic: op.atomic,
-        disassembly,
+        disassembly: op.disassembly,
     }
 }
 
@@ -75,8 +59,8 @@ pub struct Intake {
     pub no: u8,
 }
 
-// A fetch, where the operation's names are known to fit: `sources` and `destinations` are their numbers. `next`, `rows` and `history` are the window;
-// `fixed` is the machine's length of an operation, `latency` that of its class.
+// A fetch, where the operation's names are known to fit: `operands` are their numbers. `next`, `rows` and `history` are the window; `fixed` is the
+// machine's length of an operation, `latency` that of its class.
 // model: Calls.refusal, Calls.memory_after, of fetch; Scoreboard.fetched
 pub fn taken(
     board: Sequencer,
@@ -88,18 +72,17 @@ pub fn taken(
     next: u64,
     rows: usize,
     history: usize,
-    sources: [u8; 8],
-    destinations: [u8; 4],
-    fixed: MaybeNumber,
+    operands: Operands,
+    fixed: Option<u64>,
     latency: u8,
     op: PipelineOp,
     cells: &mut [u8],
 ) -> Intake
     requires sized { Sized us.now ss.now }
     requires tracks_sized { TracksSized ts.old fs.old }
-    requires takable { Takable (given (board_of board (units_of us.now ss.now n)) (window_of next rows history) (tracks_of ts.old fs.old) sources destinations fixed latency op) }
-    ensures done { Takes (given (board_of board (units_of us.now ss.now n)) (window_of next rows history) (tracks_of ts.old fs.old) sources destinations fixed latency op) (length cells.old) result (tracks_of ts.new fs.new) }
-    ensures memory { TakeWrites (given (board_of board (units_of us.now ss.now n)) (window_of next rows history) (tracks_of ts.old fs.old) sources destinations fixed latency op) cells.old cells.new }
+    requires takable { Takable (given (board_of board (units_of us.now ss.now n)) (window_of next rows history) (tracks_of ts.old fs.old) operands fixed latency op) }
+    ensures done { Takes (given (board_of board (units_of us.now ss.now n)) (window_of next rows history) (tracks_of ts.old fs.old) operands fixed latency op) (length cells.old) result (tracks_of ts.new fs.new) }
+    ensures memory { TakeWrites (given (board_of board (units_of us.now ss.now n)) (window_of next rows history) (tracks_of ts.old fs.old) operands fixed latency op) cells.old cells.new }
     ensures tracks { TracksSized ts.new fs.new }
 {
     let first = checks::fetch(board.front.in_cycle, board.front.invited, op, next);
@@ -123,15 +106,12 @@ pub fn taken(
         held: rows,
         history,
     };
-    let queue = board.queue;
-    let place = places::free_place(us, ss, n, queue, board.gone);
-    let pc = op.sequential_address(fixed);
-    let q = queued(sources, destinations, op, next, latency, place);
-    let queue1 = queue.push_back(q);
-    tracks::open(ts, fs, window, board.log.stats.cycles, cells);
     let mut b = board;
-    b.queue = queue1;
-    b.fetch_pc = pc;
+    let place = places::free_place(us, ss, n, b.queue, b.gone);
+    b.queue
+        .push_back(queued(operands, op, next, latency, place));
+    tracks::open(ts, fs, window, b.log.stats.cycles, cells);
+    b.fetch_pc = op.sequential_address(fixed);
     b.front.invited = false;
     Intake {
         board: b,
@@ -177,8 +157,8 @@ pub fn admit(
             no: first,
         };
     }
-    let x = table.resolve(op);
-    if !x.fits {
+    let mut names = table;
+    let Some(operands) = names.resolve(&op) else {
         return Admitted {
             board,
             tracks,
@@ -186,7 +166,7 @@ pub fn admit(
             place: 80,
             no: 10,
         };
-    }
+    };
     let units = board.units;
     let n = units.len;
     let mut us = [[0u8; 40]; 64];
@@ -195,10 +175,6 @@ pub fn admit(
     let mut ts = [[0u8; 2]; 256];
     let mut fs = [0u64; 256];
     tracks::spread(tracks, &mut ts, &mut fs);
-    let fixed = machine.instruction_bytes;
-    let class = op.class;
-    let sources = x.sources;
-    let destinations = x.destinations;
     let r = taken(
         Sequencer::of(board),
         &us,
@@ -209,30 +185,26 @@ pub fn admit(
         next,
         rows,
         history,
-        sources,
-        destinations,
-        fixed,
-        machine.latency(class),
+        operands,
+        machine.instruction_bytes,
+        machine.latency(op.class),
         op,
         cells,
     );
-    let no = r.no;
-    if no != 0 {
+    if r.no != 0 {
         return Admitted {
             board,
             tracks,
             table,
             place: 80,
-            no,
+            no: r.no,
         };
     }
-    let b = r.board;
-    let names = x.table;
     Admitted {
-        board: b.board(units),
+        board: r.board.board(units),
         tracks: tracks::gathered(&ts, &fs),
         table: names,
         place: r.place,
-        no,
+        no: r.no,
     }
 }

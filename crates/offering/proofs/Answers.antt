@@ -3,11 +3,11 @@ use Prim.Native.Nat.{ℕ, ◌≤◌, ◌<◌}
 use mathlib.Core.Path.{◌≡◌, refl, sym, subst, ap, ◌∙◌}
 use mathlib.Core.Bool.{Bool, true, false, cond, not, ◌&&◌, ◌||◌}
 use mathlib.Core.Logic.{◌⊎◌, ⊎_elim}
-use mathlib.Core.Option.{Option, none, some}
+use Rattle.std.specs.Prelude.{Option, None, Some, option_map}
 use mathlib.Core.List.{List, [], ◌∷◌}
 use lib.Dec.{T, ltb, eqb}
 use lib.ListN.{get_or}
-use Rattle.laws.specs.Optional.{is_none, when_some, omap}
+use Rattle.laws.specs.Optional.{is_none, when_some}
 use Rattle.laws.specs.Texts.{Text}
 use Rattle.laws.proofs.Tests.{cond-lt, cond-ge, lt-or-ge, or-neither, and_no, and-no-second}
 use Rattle.laws.proofs.Choices.{none-some, false-T}
@@ -30,30 +30,30 @@ use Rattle.bank.specs.View.{view_units, UnitsOk}
 use Rattle.board.proofs.Parts.{unit-seen}
 use Rattle.offering.specs.Answers.{offer_with}
 
-pub no_index : (w : ℕ) → 64 ≤ w → index w ≡ none
+pub no_index : (w : ℕ) → 64 ≤ w → index w ≡ None
 unfolding index
-no_index w h = cond-ge (some w) none h
+no_index w h = cond-ge (Some w) None h
 
-pub an-index : (w : ℕ) → w < 64 → index w ≡ some w
+pub an-index : (w : ℕ) → w < 64 → index w ≡ Some w
 unfolding index
-an-index w h = cond-lt (some w) none h
+an-index w h = cond-lt (Some w) None h
 
 -- The operation of the unit on offer.
 module _ (g : Legend) where
-  pub no_op : (us : Units) {w : ℕ} → 64 ≤ w → omap (λ (i : ℕ). (unit_at (view_units g us) i).op) (index w) ≡ none
-  no_op us {w} h = ap (omap (λ (i : ℕ). (unit_at (view_units g us) i).op)) (no_index w h)
+  pub no_op : (us : Units) {w : ℕ} → 64 ≤ w → option_map (λ (i : ℕ). (unit_at (view_units g us) i).op) (index w) ≡ None
+  no_op us {w} h = ap (option_map (λ (i : ℕ). (unit_at (view_units g us) i).op)) (no_index w h)
 
   pub op_at
       : {us : Units} → UnitsOk us → (d : Slot) {w : ℕ} → w < 64 → w < us.len
-      → omap (λ (i : ℕ). (unit_at (view_units g us) i).op) (index w) ≡ some (view_unit g (get_or us.items w d)).op
+      → option_map (λ (i : ℕ). (unit_at (view_units g us) i).op) (index w) ≡ Some (view_unit g (get_or us.items w d)).op
   op_at {us} ok d {w} h k =
-      ap (omap (λ (i : ℕ). (unit_at (view_units g us) i).op)) (an-index w h)
-      ∙ ap (λ (u : FunctionalUnit). some u.op) (unit-seen ok g d k)
+      ap (option_map (λ (i : ℕ). (unit_at (view_units g us) i).op)) (an-index w h)
+      ∙ ap (λ (u : FunctionalUnit). Some u.op) (unit-seen ok g d k)
 
   pub unit-branch
       : {us : Units} → UnitsOk us → (d : Slot) {w : ℕ} → w < 64 → w < us.len
       → (get_or us.items w d).redirects
-      ≡ when_some (omap (λ (i : ℕ). (unit_at (view_units g us) i).op) (index w)) false (λ (o : Op). o.core.decoded.branch)
+      ≡ when_some (option_map (λ (i : ℕ). (unit_at (view_units g us) i).op) (index w)) false (λ (o : Op). o.core.decoded.branch)
   unfolding view_unit op_with
   unit-branch ok d h k = sym (ap (λ (o : Option Op). when_some o false (λ (x : Op). x.core.decoded.branch)) (op_at ok d h k))
 
@@ -61,16 +61,16 @@ module _ (g : Legend) where
 pub below_64 : (w : ℕ) → is_none (index w) ≡ false → w < 64
 below_64 w e = ⊎_elim (λ h. h) (λ h. false-T (is_none (index w)) e (subst T (sym (no_offer w h)) tt)) (lt-or-ge w 64)
 
-pub second-no : (b x : Bool) (ps : List Check) → first_of ((5, b) ∷ (6, x) ∷ ps) ≡ none → x ≡ false
+pub second-no : (b x : Bool) (ps : List Check) → first_of ((5, b) ∷ (6, x) ∷ ps) ≡ None → x ≡ false
 unfolding first_of
 second-no true x ps e = none-some 5 (sym e)
 second-no false true ps e = none-some 6 (sym e)
 second-no false false ps e = refl
 
-pub offer-there : (b t : Bool) (w : ℕ) (ps : List Check) → first_of ((5, b) ∷ (6, is_none (index w) || t) ∷ ps) ≡ none → w < 64
+pub offer-there : (b t : Bool) (w : ℕ) (ps : List Check) → first_of ((5, b) ∷ (6, is_none (index w) || t) ∷ ps) ≡ None → w < 64
 offer-there b t w ps e = below_64 w (or-neither (is_none (index w)) t (second-no b (is_none (index w) || t) ps e)).0
 
-pub third-no : (b x y : Bool) → first_of ((5, b) ∷ (6, x) ∷ (2, y) ∷ []) ≡ none → y ≡ false
+pub third-no : (b x y : Bool) → first_of ((5, b) ∷ (6, x) ∷ (2, y) ∷ []) ≡ None → y ≡ false
 unfolding first_of
 third-no true x y e = none-some 5 (sym e)
 third-no false true y e = none-some 6 (sym e)
@@ -95,37 +95,37 @@ module _ (ds : DecodedPool) (ts : TextPool) (ns : List Text) where
 
   pub unit-resolved
       : (u : Slot) (actual : ℕ)
-      → resolve_branch (some (view_unit pool-legend u).op) actual
-      ≡ cond (u.redirects && not (eqb actual (decoded_at ds u.place).predicted_next)) (some actual) none
+      → resolve_branch (Some (view_unit pool-legend u).op) actual
+      ≡ cond (u.redirects && not (eqb actual (decoded_at ds u.place).predicted_next)) (Some actual) None
   unfolding resolve_branch view_unit op_with offer_view
   unit-resolved u actual =
-      ap (λ (v : ModelOffer). cond (v.branch && not (eqb actual v.predicted_next)) (some actual) none) (unit-offer u)
+      ap (λ (v : ModelOffer). cond (v.branch && not (eqb actual v.predicted_next)) (Some actual) None) (unit-offer u)
 
   -- Where to go instead, by the test on what the code read.
   pub unit-answer
       : {us : Units} → UnitsOk us → (d : Slot) {w : ℕ} → w < 64 → w < us.len → (actual : ℕ) {x : Decoded} {b : Bool}
       → x ≡ decoded_at ds (get_or us.items w d).place
       → ((get_or us.items w d).redirects && not (eqb actual x.predicted_next)) ≡ b
-      → resolve_branch (omap (λ (i : ℕ). (unit_at (view_units pool-legend us) i).op) (index w)) actual ≡ cond b (some actual) none
+      → resolve_branch (option_map (λ (i : ℕ). (unit_at (view_units pool-legend us) i).op) (index w)) actual ≡ cond b (Some actual) None
   unit-answer {us} ok d {w} h k actual e q =
       let u = get_or us.items w d in
       ap (λ (o : Option Op). resolve_branch o actual) (op_at pool-legend ok d h k) ∙ unit-resolved u actual
-      ∙ ap (λ (y : Decoded). cond (u.redirects && not (eqb actual y.predicted_next)) (some actual) none) (sym e)
-      ∙ ap (λ (t : Bool). cond t (some actual) none) q
+      ∙ ap (λ (y : Decoded). cond (u.redirects && not (eqb actual y.predicted_next)) (Some actual) None) (sym e)
+      ∙ ap (λ (t : Bool). cond t (Some actual) None) q
 
   pub offer-answer
       : {us : Units} → UnitsOk us → (d : Slot) {w : ℕ} → w < 64 → w < us.len → {x : Decoded} {v : ModelOffer}
       → v ≡ offer_with (get_or us.items w d) x → x ≡ decoded_at ds (get_or us.items w d).place
-      → some v ≡ omap offer_view (omap (λ (i : ℕ). (unit_at (view_units pool-legend us) i).op) (index w))
+      → Some v ≡ option_map offer_view (option_map (λ (i : ℕ). (unit_at (view_units pool-legend us) i).op) (index w))
   offer-answer {us} ok d {w} h k e q =
       let u = get_or us.items w d in
-      ap some (e ∙ ap (offer_with u) q ∙ sym (unit-offer u)) ∙ sym (ap (omap offer_view) (op_at pool-legend ok d h k))
+      ap Some (e ∙ ap (offer_with u) q ∙ sym (unit-offer u)) ∙ sym (ap (option_map offer_view) (op_at pool-legend ok d h k))
 
   pub unit-unanswered
       : {us : Units} → UnitsOk us → (d : Slot) {w : ℕ} → w < 64 → w < us.len → (actual : ℕ) {x : Decoded}
       → x ≡ decoded_at ds (get_or us.items w d).place
       → ((get_or us.items w d).redirects ≡ false) ⊎ (not (eqb actual x.predicted_next) ≡ false)
-      → resolve_branch (omap (λ (i : ℕ). (unit_at (view_units pool-legend us) i).op) (index w)) actual ≡ none
+      → resolve_branch (option_map (λ (i : ℕ). (unit_at (view_units pool-legend us) i).op) (index w)) actual ≡ None
   unit-unanswered {us} ok d {w} h k actual {x} e o =
       unit-answer ok d h k actual e
       (⊎_elim (λ q. and_no (not (eqb actual x.predicted_next)) q) (λ q. and-no-second (get_or us.items w d).redirects q) o)

@@ -4,7 +4,8 @@ use mathlib.Core.Path.{◌≡◌, refl, sym, ap, ◌∙◌}
 use mathlib.Core.Bool.{true, false, not, ◌||◌}
 use mathlib.Core.List.{[], ◌∷◌}
 use native.Mathlib.Omega.{arith}
-use Rattle.laws.specs.Optional.{is_none, omap}
+use Rattle.laws.specs.Optional.{is_none}
+use Rattle.std.specs.Prelude.{option_map}
 use Rattle.model.specs.State.{State}
 use Rattle.model.specs.Write.{offered_op, start_cycle, retire as do_retire}
 use Rattle.model.specs.Views.{offer_view}
@@ -38,7 +39,7 @@ module _ {e : Engine} (v : Valid e) where
   unfolding view_engine view_board refusal checks run reply offered_op first_of
   does-start h {b} s o =
       does-taken v (passed 4 [] h)
-      (λ m. o e.texts (view_held e.table) ∙ ap (λ (x : State). offered (omap offer_view (offered_op x))) (s.is (frame_of e)))
+      (λ m. o e.texts (view_held e.table) ∙ ap (λ (x : State). offered (option_map offer_view (offered_op x))) (s.is (frame_of e)))
       (s.is (frame_of e)) (started-parts e b v.parts (no_offer-outside v h) s)
 
   -- ── Retire ────────────────────────────────────────────────────────────────

@@ -1,7 +1,5 @@
 -- The answers about the result on offer, whatever texts and names stand behind the numbers.
-use Rattle.std.specs.Prelude.{ℕ, ◌≡◌, List}
-use Rattle.std.proofs.Math.Option.{Option}
-use Rattle.laws.specs.Optional.{omap}
+use Rattle.std.specs.Prelude.{ℕ, ◌≡◌, List, Option, option_map}
 use Rattle.laws.specs.Texts.{Text}
 use Rattle.model.specs.Op.{Op}
 use Rattle.model.specs.Units.{unit_at}
@@ -34,10 +32,10 @@ offer_with u d =
 
 -- The operation on offer: that of a unit, 64 for none.
 abbrev pub op_on_offer : DecodedPool → TextPool → List Text → Units → ℕ → Option Op
-op_on_offer ds ts ns us w = omap (λ (i : ℕ). (unit_at (view_units (legend ds ts ns) us) i).op) (index w)
+op_on_offer ds ts ns us w = option_map (λ (i : ℕ). (unit_at (view_units (legend ds ts ns) us) i).op) (index w)
 
 abbrev pub Offers : Units → DecodedPool → ℕ → Answer → Type 0
-Offers us ds w r = (ts : TextPool) (ns : List Text) → view_answer r ≡ offered (omap offer_view (op_on_offer ds ts ns us w))
+Offers us ds w r = (ts : TextPool) (ns : List Text) → view_answer r ≡ offered (option_map offer_view (op_on_offer ds ts ns us w))
 
 abbrev pub Resolves : Units → DecodedPool → ℕ → ℕ → Answer → Type 0
 Resolves us ds w actual r = (ts : TextPool) (ns : List Text) → view_answer r ≡ resolved (resolve_branch (op_on_offer ds ts ns us w) actual)

@@ -18,15 +18,15 @@ use flight::pool::{Decoded, DecodedPool};
 use units::Unit;
 
 // model: Views.offer_view
+#[tactic(auto, unfolding(engine::specs::View::view_offer))]
 fn offer_view(u: Unit, d: Decoded) -> OfferView
     ensures { view_offer result ≡ offer_with u d }
 {
-    let class = u.class;
     OfferView {
         seq: u.seq,
         address: d.address,
         length: d.length,
-        class,
+        class: u.class,
         branch: u.redirects,
         atomic: d.atomic,
         predicted_next: d.predicted_next,
@@ -135,9 +135,8 @@ pub fn write_result(board: Board, decoded: DecodedPool, starts: bool) -> AfterWr
         };
     }
     let r = retired(Sequencer::of(board), &us, &ss);
-    let b = r.board;
     AfterWrite {
-        board: b.board(units),
+        board: r.board.board(units),
         answer: done_or(r.no),
     }
 }

@@ -3,14 +3,15 @@ use Prim.Native.Nat.{ℕ, zero, suc, ◌≤◌}
 use mathlib.Core.Path.{◌≡◌, refl, sym, subst, ap, ap₂, ◌∙◌}
 use mathlib.Core.Bool.{Bool, false, cond}
 use mathlib.Core.Logic.{◌⊎◌, inl, inr, ⊎_elim}
-use mathlib.Core.Option.{none}
+use Rattle.std.specs.Prelude.{None, slice_get, option_map}
 use mathlib.Core.List.{List, [], ◌∷◌}
 use native.Mathlib.Omega.{arith}
 use lib.Dec.{T, eqb, ltb}
 use lib.ListN.{get_or}
 use Rattle.laws.specs.Means.{Means}
 use Rattle.laws.specs.Optional.{is_none}
-use Rattle.laws.specs.Lists.{All, any, count, nth, modify}
+use Rattle.laws.specs.Lists.{All, count, modify}
+use Rattle.std.specs.List.{list_any}
 use Rattle.laws.specs.Texts.{Text}
 use Rattle.laws.proofs.Choices.{false-T}
 use Rattle.laws.proofs.Tests.{cond-ne, or-neither}
@@ -19,25 +20,14 @@ use Rattle.model.specs.Units.{FunctionalUnit, idle_unit, is_busy, unit_at}
 use Rattle.model.specs.State.{state, log_of}
 use Rattle.model.specs.Scoreboard.{rebuilt, with_noted, set_capacity}
 use Rattle.model.specs.Calls.{first_of}
-use Rattle.op.specs.View.{view_maybe_text}
+use Rattle.op.specs.Chars.{view_text}
 use Rattle.config.specs.declared.Machine.{Machine}
 use Rattle.config.specs.View.{view_machine}
 use Rattle.config.specs.Kept.{MachineOk}
 use Rattle.config.specs.Checks.{noted_specs, noted, capacity_checks, capacity_refusal}
 use Rattle.checks.specs.Numbered.{numbered}
 use Rattle.timeline.specs.declared.WaitForm.{WaitForm}
-use Rattle.timeline.specs.declared.WaitForm.TheVariants.{
-  Overwrites,
-  MemoryOrder,
-  Drains,
-  WaitsFor,
-  WaitsForOlder,
-  BehindBranch,
-  BehindSystem,
-  StillWrites,
-  AllBusy,
-  RedirectTo,
-}
+use Rattle.timeline.specs.declared.WaitForm.TheVariants.{Overwrites, MemoryOrder, Drains, WaitsFor, WaitsForOlder, BehindBranch, BehindSystem, StillWrites, AllBusy, RedirectTo}
 use Rattle.flight.specs.View.{Legend}
 use Rattle.stalls.specs.declared.Trace.{Trace}
 use Rattle.stalls.specs.View.{number_word, listed, view_stats, view_log}
@@ -60,7 +50,7 @@ use Rattle.engine.proofs.Legends.{WaitAgrees, waits-agree}
 -- ── The kinds' names ────────────────────────────────────────────────────────
 
 noted-name : (kind n : ℕ) (ks : List UnitSpec) (i : ℕ) → spec_name (modify kind (with_capacity n) ks) i ≡ spec_name ks i
-unfolding spec_name nth modify
+unfolding spec_name modify
 noted-name kind n [] i = refl
 noted-name zero n (k ∷ ks) zero = refl
 noted-name zero n (k ∷ ks) (suc i) = refl
@@ -83,11 +73,11 @@ module _ (ks ls : List UnitSpec) (same : (i : ℕ) → spec_name ls i ≡ spec_n
 
 -- ── Units that are all free ─────────────────────────────────────────────────
 
-free_at : (us : List FunctionalUnit) → any is_busy us ≡ false → (i : ℕ) → (unit_at us i).busy ≡ false
-unfolding any unit_at nth is_busy idle_unit
+free_at : (us : List FunctionalUnit) → list_any is_busy us ≡ false → (i : ℕ) → (unit_at us i).busy ≡ false
+unfolding unit_at is_busy idle_unit
 free_at [] e i = refl
-free_at (u ∷ us) e zero = (or-neither u.busy (any is_busy us) e).0
-free_at (u ∷ us) e (suc i) = free_at us (or-neither u.busy (any is_busy us) e).1 i
+free_at (u ∷ us) e zero = (or-neither u.busy (list_any is_busy us) e).0
+free_at (u ∷ us) e (suc i) = free_at us (or-neither u.busy (list_any is_busy us) e).1 i
 
 none-counted : (l : List ℕ) → ((i : ℕ) → get_or l i 80 ≡ 80) → (p : ℕ) → (p ≡ 80 → ⊥) → count (eqb p) l ≡ 0
 unfolding count
@@ -96,7 +86,7 @@ none-counted (x ∷ l) h p n =
     let z : ◌≡◌ {A = ℕ} (cond (eqb p x) 1 0) 0 = cond-ne {A = ℕ} 1 0 (λ q. n (q ∙ h 0)) in omega (arith, z, none-counted l (λ i. h (suc i)) p n)
 
 -- Nothing is on offer, and none is busy: no unit has a place.
-pub free-places : {us : Units} {w : ℕ} → UnitsOk us → 64 ≤ w → Empty us w → ((g : Legend) → any is_busy (view_units g us) ≡ false) → (p : ℕ) → (p ≡ 80 → ⊥)
+pub free-places : {us : Units} {w : ℕ} → UnitsOk us → 64 ≤ w → Empty us w → ((g : Legend) → list_any is_busy (view_units g us) ≡ false) → (p : ℕ) → (p ≡ 80 → ⊥)
     → count (eqb p) (places us) ≡ 0
 free-places {us} ok h e idle = none-counted (places us) each
   where
@@ -108,8 +98,8 @@ free-places {us} ok h e idle = none-counted (places us) each
 -- Nothing refuses the change.
 pub capacity-free
     : (open_cycle : Bool) (kind n : ℕ) (ks : List UnitSpec) {no : ℕ}
-    → numbered no ≡ first_of ((4, open_cycle) ∷ (12, is_none (nth ks kind)) ∷ (1, ltb 64 (capacities (noted_specs kind n ks))) ∷ []) → no ≡ 0
-    → (open_cycle ≡ false) × (capacity_refusal kind n ks ≡ none)
+    → numbered no ≡ first_of ((4, open_cycle) ∷ (12, is_none (slice_get ks kind)) ∷ (1, ltb 64 (capacities (noted_specs kind n ks))) ∷ []) → no ≡ 0
+    → (open_cycle ≡ false) × (capacity_refusal kind n ks ≡ None)
 unfolding capacity_refusal capacity_checks
 capacity-free open_cycle kind n ks e z = row-passes 4 {b = open_cycle} (capacity_checks kind n ks) (no_number e z)
 
@@ -173,12 +163,12 @@ module _ {e : Engine} (p : Parts e) (kind n : ℕ) {m : Machine} {us : Units}
       (λ vs ts.
       state (view_machine m) vs (view_board (frame_of e) b).queue (view_board (frame_of e) b).names (view_board (frame_of e) b).producer
       (view_board (frame_of e) b).marks (view_board (frame_of e) b).offer (view_board (frame_of e) b).front
-      (log_of (view_stats b.log.stats) ts (frame_of e).rows (view_maybe_text b.status)))
+      (log_of (view_stats b.log.stats) ts (frame_of e).rows (option_map view_text b.status)))
       (u.is (legend_of e))
       (waits-agree (log_frame (frame_of e) b) (log_frame (frame_of r) r.board) b.log.traces (waits-same (listed b.log.traces)))
       ∙ ap
       (λ (a : ModelMachine).
-      state a (rebuilt (any is_busy (view_units (legend_of e) b.units)) a.specs (view_units (legend_of e) b.units))
+      state a (rebuilt (list_any is_busy (view_units (legend_of e) b.units)) a.specs (view_units (legend_of e) b.units))
       (view_board (frame_of e) b).queue (view_board (frame_of e) b).names (view_board (frame_of e) b).producer
       (view_board (frame_of e) b).marks (view_board (frame_of e) b).offer (view_board (frame_of e) b).front (view_board (frame_of e) b).log)
       k.is

@@ -2,7 +2,7 @@
 use Prim.Native.Nat.{ℕ, zero, suc}
 use mathlib.Core.Path.{◌≡◌, refl, sym, subst, ap, ◌∙◌}
 use mathlib.Core.Bool.{Bool, true, false, cond}
-use mathlib.Core.Option.{none}
+use Rattle.std.specs.Prelude.{None}
 use mathlib.Core.List.{List, [], ◌∷◌, map}
 use native.Mathlib.Omega.{arith}
 use lib.Dec.{eqb}
@@ -119,18 +119,18 @@ module _ {e : Engine} (p : Parts e) {us : Units} {entry : ℕ} {r : Board} (f : 
     (u : UnitsAre us (λ g. build_units 0 (view_machine e.machine).specs) (replicate (capacities (view_machine e.machine).specs) 80))
     (on : Bool) (st : PipelineStats) (w : Window) where
   pub fresh-is : view_engine (fresh-engine e (fresh-board on st r) w)
-      ≡ state (view_machine e.machine) (build_units 0 (view_machine e.machine).specs) [] [] [] (marks false false) (offer_of none false)
+      ≡ state (view_machine e.machine) (build_units 0 (view_machine e.machine).specs) [] [] [] (marks false false) (offer_of None false)
       (front_of on false false false false entry w.next w.next)
-      (log_of (view_stats st) [] (view_rows w e.tracks e.rows) none)
+      (log_of (view_stats st) [] (view_rows w e.tracks e.rows) None)
   unfolding view_engine boards view_log view_traces view_trace
   fresh-is =
       let x = frame_of (fresh-engine e (fresh-board on st r) w) in
       ap (λ (s : State). with_log (with_stats (view_stats st) s.log) (with_front (with_enabled on s.front) s)) (f.is x)
       ∙ ap
       (λ (l : List FunctionalUnit).
-      state (view_machine e.machine) l [] [] [] (marks false false) (offer_of none false)
+      state (view_machine e.machine) l [] [] [] (marks false false) (offer_of None false)
       (front_of on false false false false entry w.next w.next)
-      (log_of (view_stats st) [] (view_rows w e.tracks e.rows) none))
+      (log_of (view_stats st) [] (view_rows w e.tracks e.rows) None))
       (u.is x.legend)
 
   -- Nothing is counted yet.

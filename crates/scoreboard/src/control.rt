@@ -1,7 +1,7 @@
 // Capacity, overlap, halt, fault, and both resets (ooo/scoreboard.rs, PipelineControl).
 ghost use Rattle.std.specs.Prelude.{◌≡◌, length};
 ghost use Rattle.model.specs.Calls.{capacity, overlap, halt, fault, reset, redirect, memory_after};
-ghost use Rattle.op.specs.View.{view_text};
+ghost use Rattle.op.specs.Chars.{view_text};
 ghost use Rattle.config.specs.View.{view_machine};
 ghost use Rattle.config.specs.Kept.{MachineOk};
 ghost use Rattle.bank.specs.View.{UnitsOk};
@@ -27,7 +27,7 @@ fn rebuilt(units: Units, machine: Machine) -> Units
     if units.any_busy() {
         units
     } else {
-        Units::build(machine)
+        Units::build(&machine)
     }
 }
 
@@ -37,16 +37,10 @@ impl ScoreboardPipeline {
         requires { Valid self }
         ensures { Does self (capacity kind instances) result }
     {
-        let mut board = self.board;
-        let machine = self.machine;
-        let no = checks::capacity(board.front.in_cycle, machine, kind, instances);
+        let no = checks::capacity(self.board.front.in_cycle, self.machine, kind, instances);
         if no == 0 {
-            let units = board.units;
-            let noted = machine.noted(kind, instances);
-            let built = rebuilt(units, noted);
-            board.units = built;
-            self.board = board;
-            self.machine = noted;
+            self.machine = self.machine.noted(kind, instances);
+            self.board.units = rebuilt(self.board.units, self.machine);
         }
         Next {
             engine: self,
@@ -70,11 +64,8 @@ impl ScoreboardPipeline {
         requires { Valid self }
         ensures { Does self halt result }
     {
-        let board = self.board;
-        let b = board.stopped(true, false, Text::from_slice(b"halted"));
-        let known = self.table.known;
-        self.board = b;
-        self.table.held = known;
+        self.board = self.board.stopped(true, false, Text::from_slice(b"halted"));
+        self.table.held = self.table.known;
         Next {
             engine: self,
             answer: Answer::Done,
@@ -87,11 +78,8 @@ impl ScoreboardPipeline {
     {
         let no = checks::fault(note);
         if no == 0 {
-            let board = self.board;
-            let b = board.stopped(false, true, note);
-            let known = self.table.known;
-            self.board = b;
-            self.table.held = known;
+            self.board = self.board.stopped(false, true, note);
+            self.table.held = self.table.known;
         }
         Next {
             engine: self,
@@ -104,15 +92,9 @@ impl ScoreboardPipeline {
         requires { Valid self }
         ensures { Does self (redirect address) result }
     {
-        let machine = self.machine;
-        let old = self.board;
-        let old_log = old.log;
-        let mut fresh = Board::new(Units::build(machine), address);
-        let mut log = fresh.log;
-        let stats = old_log.stats;
-        log.stats = stats;
-        fresh.log = log;
-        fresh.front.enabled = old.front.enabled;
+        let mut fresh = Board::new(Units::build(&self.machine), address);
+        fresh.log.stats = self.board.log.stats;
+        fresh.front.enabled = self.board.front.enabled;
         self.board = fresh;
         self.table.known = 0;
         self.table.held = 0;
@@ -131,10 +113,8 @@ impl ScoreboardPipeline {
         let history = self.machine.history;
         let no = checks::short(cells.len(), history);
         if no == 0 {
-            let machine = self.machine;
-            let old = self.board;
-            let mut fresh = Board::new(Units::build(machine), address);
-            fresh.front.enabled = old.front.enabled;
+            let mut fresh = Board::new(Units::build(&self.machine), address);
+            fresh.front.enabled = self.board.front.enabled;
             timeline::cells::clear(cells, history);
             self.board = fresh;
             self.window.next = 0;

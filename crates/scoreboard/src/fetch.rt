@@ -18,48 +18,48 @@ impl ScoreboardPipeline {
         ensures done { Does self (fetch (view_op op) (length cells.old)) result }
         ensures memory { cells.new ≡ memory_after (view_engine self) (fetch (view_op op) (length cells.old)) cells.old }
     {
-        let board = self.board;
-        let tracks = self.tracks;
-        let machine = self.machine;
-        let table = self.table;
-        let mut window = self.window;
-        let seq = window.next;
-        let rows = window.held;
-        let history = window.history;
+        let seq = self.window.next;
+        let rows = self.window.held;
+        let history = self.window.history;
         // As in advance.
         let r = if rows < history {
-            fetching::admit(board, tracks, seq, rows, history, machine, table, op, cells)
+            fetching::admit(
+                self.board,
+                self.tracks,
+                seq,
+                rows,
+                history,
+                self.machine,
+                self.table,
+                op,
+                cells,
+            )
         } else {
-            fetching::admit(board, tracks, seq, history, rows, machine, table, op, cells)
+            fetching::admit(
+                self.board,
+                self.tracks,
+                seq,
+                history,
+                rows,
+                self.machine,
+                self.table,
+                op,
+                cells,
+            )
         };
-        let mut decoded = self.decoded;
-        let mut texts = self.texts;
-        let mut lines = self.rows;
-        let after = r.board;
-        let no = r.no;
-        if no == 0 {
-            let place = r.place;
-            let s = window.slot(seq);
-            let d = Decoded::of(op, after.fetch_pc);
-            let t = Texts::of(op);
-            let x = fetching::row_of(op);
-            decoded.items[place] = d;
-            texts.items[place] = t;
-            lines.items[s] = x;
-            window = window.opened();
+        self.board = r.board;
+        self.tracks = r.tracks;
+        self.table = r.table;
+        if r.no == 0 {
+            let s = self.window.slot(seq);
+            self.decoded.items[r.place] = Decoded::of(&op, r.board.fetch_pc);
+            self.texts.items[r.place] = Texts::of(&op);
+            self.rows.items[s] = fetching::row_of(op);
+            self.window.open();
         }
-        let tracks1 = r.tracks;
-        let names = r.table;
-        self.board = after;
-        self.window = window;
-        self.tracks = tracks1;
-        self.decoded = decoded;
-        self.table = names;
-        self.texts = texts;
-        self.rows = lines;
         Next {
             engine: self,
-            answer: done_or(no),
+            answer: done_or(r.no),
         }
     }
 }

@@ -22,7 +22,7 @@ pub mod control;
 ghost use Rattle.std.specs.Prelude.{◌≡◌, length};
 ghost use Rattle.laws.specs.Means.{Means};
 ghost use Rattle.model.specs.Calls.{make_memory, start, retire, retry, resolve};
-ghost use Rattle.op.specs.View.{view_text};
+ghost use Rattle.op.specs.Chars.{view_text};
 ghost use Rattle.config.specs.View.{view_shape, view_machine};
 ghost use Rattle.config.specs.Kept.{MachineOk};
 ghost use Rattle.scoreboard.specs.View.{view_engine};
@@ -53,23 +53,15 @@ fn new_engine(machine: Machine, entry: u64) -> ScoreboardPipeline
     requires { MachineOk machine }
     ensures { Means view_engine Parts result (new_state (view_machine machine) entry) }
 {
-    let units = Units::build(machine);
-    let board = Board::new(units, entry);
-    let window = Window::new(machine.history);
-    let tracks = Tracks::new();
-    let decoded = DecodedPool::new();
-    let table = RegisterTable::new();
-    let texts = TextPool::new();
-    let rows = RowTexts::new();
     ScoreboardPipeline {
-        board,
-        window,
-        tracks,
-        decoded,
+        board: Board::new(Units::build(&machine), entry),
+        window: Window::new(machine.history),
+        tracks: Tracks::new(),
+        decoded: DecodedPool::new(),
         machine,
-        table,
-        texts,
-        rows,
+        table: RegisterTable::new(),
+        texts: TextPool::new(),
+        rows: RowTexts::new(),
     }
 }
 
@@ -100,15 +92,11 @@ impl ScoreboardPipeline {
         requires { Valid self }
         ensures { Does self start result }
     {
-        let board = self.board;
-        let decoded = self.decoded;
-        let b = offering::write_result(board, decoded, true);
-        let after = b.board;
-        let answer = b.answer;
-        self.board = after;
+        let b = offering::write_result(self.board, self.decoded, true);
+        self.board = b.board;
         Next {
             engine: self,
-            answer,
+            answer: b.answer,
         }
     }
 
@@ -116,15 +104,11 @@ impl ScoreboardPipeline {
         requires { Valid self }
         ensures { Does self retire result }
     {
-        let board = self.board;
-        let decoded = self.decoded;
-        let b = offering::write_result(board, decoded, false);
-        let after = b.board;
-        let answer = b.answer;
-        self.board = after;
+        let b = offering::write_result(self.board, self.decoded, false);
+        self.board = b.board;
         Next {
             engine: self,
-            answer,
+            answer: b.answer,
         }
     }
 
@@ -133,16 +117,14 @@ impl ScoreboardPipeline {
         requires { Valid self }
         ensures { Does self (retry (view_text reason)) result }
     {
-        let board = self.board;
         let no = checks::retry(
-            board.front.in_cycle,
-            board.offer.writing,
-            board.offer.retired,
+            self.board.front.in_cycle,
+            self.board.offer.writing,
+            self.board.offer.retired,
             reason,
         );
         if no == 0 {
-            let after = board.retry(reason);
-            self.board = after;
+            self.board = self.board.retry(reason);
         }
         Next {
             engine: self,
@@ -156,13 +138,11 @@ impl ScoreboardPipeline {
         ensures { Does self (resolve actual_next) result }
     {
         let board = self.board;
-        let units = board.units;
-        let decoded = self.decoded;
         let no = checks::resolve(board.front.in_cycle, board.offer.writing);
         let answer = if no != 0 {
             done_or(no)
         } else {
-            offering::resolve_answer(units, decoded, board.offer.writing, actual_next)
+            offering::resolve_answer(board.units, self.decoded, board.offer.writing, actual_next)
         };
         Next {
             engine: self,

@@ -3,7 +3,6 @@ use mathlib.Core.Path.{◌≡◌, sym, ◌∙◌}
 use mathlib.Core.Bool.{false, ◌||◌}
 use native.Mathlib.Omega.{arith}
 use lib.ListN.{length}
-use Rattle.op.specs.View.{view_maybe_number}
 use Rattle.tracks.specs.View.{tracks_of}
 use Rattle.slots.specs.View.{units_of}
 use Rattle.board.specs.View.{board_of}
@@ -19,7 +18,7 @@ use Rattle.advancing.proofs.advanced.Goals as goal
 
 pub returns-then-no-ne0 : goal.returns-then-no-ne0
 returns-then-no-ne0 c =
-    let t = view_maybe_number c.args.redirect in
+    let t = c.args.redirect in
     let m = c.args.cells.now in
     record {
       done = λ e v. does-refused v (some_number (c.advance-no.ensures ∙ checked v t (length m)) c.if-no-ne0.true);
@@ -31,7 +30,7 @@ returns-then-no-ne0 c =
 pub returns-then-stops : goal.returns-then-stops
 returns-then-stops c =
     let g = c.args in
-    let t = view_maybe_number g.redirect in
+    let t = g.redirect in
     let m = g.cells.now in
     let cl = c.closed-b.ensures.is in
     let q = sym c.stops.ensures ∙ c.if-stops.true in
@@ -161,7 +160,7 @@ shape_of-cells c =
 
 pub returns : goal.returns
 returns c =
-    let h = c.held_after-kept.ensures in
+    let h = c.held_after.ensures in
     let u = c.push_units.ensures in
     let q = c.push_queue.ensures in
     let j = c.invite-after.ensures in
@@ -170,7 +169,7 @@ returns c =
     let f = c.flushed_rows.ensures in
     let k = c.closed-b.ensures.is in
     let r = c.redirected.ensures _ k.ok in
-    let t = view_maybe_number c.args.redirect in
+    let t = c.args.redirect in
     let m = c.args.cells.now in
     let g = c.args in
     let b = board_of g.board (units_of g.us.now g.ss.now g.n) in
@@ -182,7 +181,7 @@ returns c =
           λ e v.
           let x = engine_of (board_of g.board (units_of g.us.now g.ss.now g.n)) (window_of g.next g.rows g.history) (tracks_of g.ts.now g.fs.now) g.machine g.known g.held e in
           works v t m (no_number (c.advance-no.ensures ∙ checked v t (length m)) c.if-no-ne0.false) (stops-board x ∙ runs)
-          (working v opened k r w i.is j f.tracks q.tracks u.tracks h (λ x. c.invitation-answer.ensures x _));
+          (working v opened k r w i.is j f.tracks q.tracks u.tracks h (λ x. c.invitation.ensures x _));
       memory =
           λ e v.
           let x = engine_of (board_of g.board (units_of g.us.now g.ss.now g.n)) (window_of g.next g.rows g.history) (tracks_of g.ts.now g.fs.now) g.machine g.known g.held e in

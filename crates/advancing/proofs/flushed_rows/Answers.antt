@@ -1,45 +1,47 @@
+use mathlib.Core.Path.{◌≡◌, refl, sym, subst}
+use mathlib.Core.Bool.{true, false}
+use Rattle.std.specs.Prelude.{Option, None, Some, is_some}
+use mathlib.Core.List.{List, [], map}
 use Prim.Native.Nat.{ℕ}
-use mathlib.Core.Path.{refl, sym, subst, ap}
-use mathlib.Core.Option.{Option}
-use mathlib.Core.List.{List}
+use Rattle.std.proofs.Common.{rules}
+use Rattle.model.specs.Op.{Op}
 use Rattle.model.specs.Timeline.{push_all, push_all_writes, write_all}
-use Rattle.op.specs.View.{view_maybe_number}
-use Rattle.timeline.specs.declared.Window.{Window}
+use Rattle.model.specs.Issue.{flushed_cell}
 use Rattle.tracks.specs.View.{tracks_of}
-use Rattle.flight.specs.declared.Queue.{Queue}
-use Rattle.flight.specs.View.{Legend, view_queue}
+use Rattle.flight.specs.View.{view_queue}
 use Rattle.recording.specs.Recorded.{Recorded, Written}
 use Rattle.advancing.specs.Advance.{dropped_cells}
-use Rattle.timeline.specs.declared.Tracks.{Tracks}
 use Rattle.advancing.proofs.flushed_rows.Goals as goal
 
--- By what the redirect is.
-abbrev Cells : Window → Queue → Tracks → Tracks → Option ℕ → Type 0
-Cells w q t u o = (g : Legend) → Recorded w (dropped_cells o (view_queue g q)) t u
+-- By whether there is a redirect.
+some-cells : (o : Option ℕ) (q : List Op) → is_some o ≡ true → map flushed_cell q ≡ dropped_cells o q
+some-cells (Some t) q e = refl
+some-cells None q e = cc
 
-abbrev Bytes : Window → Queue → Tracks → List ℕ → List ℕ → Option ℕ → Type 0
-Bytes w q t m n o = (g : Legend) → Written w (dropped_cells o (view_queue g q)) t m n
+none-cells : (o : Option ℕ) (q : List Op) → is_some o ≡ false → [] ≡ dropped_cells o q
+none-cells None q e = refl
+none-cells (Some t) q e = cc
 
-pub returns-in-Some : goal.returns-in-Some
-unfolding view_maybe_number
-returns-in-Some c =
+pub returns-then-is_some-clause-tracks : goal.returns-then-is_some-clause-tracks
+returns-then-is_some-clause-tracks c g =
     let a = c.args in
-    let e = c.push_flushed.ensures in
-    let q = sym (ap view_maybe_number c.in-Some.is) in
-    record {
-      tracks = subst (Cells a.window a.queue (tracks_of a.ts.now a.fs.now) _) q e.tracks;
-      memory = subst (Bytes a.window a.queue (tracks_of a.ts.now a.fs.now) a.cells.now _) q e.memory;
-      lent = e.lent;
-    }
+    let there : is_some a.redirect ≡ true = search rules in
+    subst (λ ps. Recorded a.window ps (tracks_of a.ts.now a.fs.now) (tracks_of c.push_flushed.new.ts c.push_flushed.new.fs)) (some-cells a.redirect (view_queue g a.queue) there)
+    (c.push_flushed.ensures.tracks g)
 
-pub returns-in-Nothing : goal.returns-in-Nothing
-unfolding view_maybe_number push_all push_all_writes write_all
-returns-in-Nothing c =
+pub returns-else-is_some-clause-tracks : goal.returns-else-is_some-clause-tracks
+unfolding push_all
+returns-else-is_some-clause-tracks c g =
     let a = c.args in
     let t = tracks_of a.ts.now a.fs.now in
-    let q = sym (ap view_maybe_number c.in-Nothing.is) in
-    record {
-      tracks = subst (Cells a.window a.queue t t) q (λ g. record { is = λ xs. refl; ok = c.requires.tracks_lent.ok });
-      memory = subst (Bytes a.window a.queue t a.cells.now a.cells.now) q (λ g xs. refl);
-      lent = c.requires.tracks_lent;
-    }
+    let not_there : is_some a.redirect ≡ false = search rules in
+    subst (λ ps. Recorded a.window ps t t) (none-cells a.redirect (view_queue g a.queue) not_there)
+    (record { is = λ xs. refl; ok = c.requires.tracks_lent.ok })
+
+pub returns-else-is_some-clause-memory : goal.returns-else-is_some-clause-memory
+unfolding push_all_writes write_all
+returns-else-is_some-clause-memory c g =
+    let a = c.args in
+    let not_there : is_some a.redirect ≡ false = search rules in
+    subst (λ ps. Written a.window ps (tracks_of a.ts.now a.fs.now) a.cells.now a.cells.now)
+    (none-cells a.redirect (view_queue g a.queue) not_there) (λ xs. refl)

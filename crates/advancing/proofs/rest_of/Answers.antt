@@ -1,6 +1,5 @@
 use mathlib.Core.Path.{sym, subst, ap₂}
 use lib.ListN.{length}
-use Rattle.op.specs.View.{view_maybe_number}
 use Rattle.timeline.specs.declared.Tracks.{Tracks}
 use Rattle.board.specs.declared.Board.{Board}
 use Rattle.engine.specs.Engine.{window_of}
@@ -25,7 +24,7 @@ pub returns : goal.returns
 returns c =
     let a = c.args in
     let w = window_of a.next a.rows a.history in
-    let t = view_maybe_number a.redirect in
+    let t = a.redirect in
     let m = a.cells.now in
     let o = c.of.ensures in
     let h = c.spread.ensures in
@@ -36,7 +35,7 @@ returns c =
           subst (Rests a.board w a.tracks a.machine a.known a.held t (length m))
           (sym
           (ap₂ (λ (b : Board) (u : Tracks). record { board = b; tracks = u; known = r.result.known; held = r.result.held; answer = r.result.answer })
-          (board-made c.board-b.ensures c.gathered.ensures) c.gathered-t.ensures))
+          (board-made c.board.ensures c.gathered.ensures) c.gathered-2.ensures))
           (rests-back o h k w a.machine a.known a.held t (length m) _ r.ensures.done);
       memory = writes-back o h k w a.machine a.known a.held t m _ r.ensures.memory;
     }

@@ -1,5 +1,5 @@
 use mathlib.Core.Path.{◌≡◌}
-use mathlib.Core.Option.{none}
+use Rattle.std.specs.Prelude.{None}
 use native.Mathlib.Omega.{arith}
 use lib.ListN.{length}
 use Rattle.model.specs.Calls.{first_of}
@@ -9,7 +9,7 @@ use Rattle.slots.specs.View.{units_of}
 use Rattle.board.specs.Promises.{placing}
 use Rattle.engine.specs.Engine.{window_of}
 use Rattle.checks.proofs.Passing.{some_number, no_number}
-use Rattle.fetching.proofs.Taking.{Loan, before-names, after-names, refuses-first, memory-first, refuses-last, memory-last, room-left, few-left, room-there, few-reads, few-writes, taking, memory-taken}
+use Rattle.fetching.proofs.Taking.{Loan, before-names, after-names, refuses-first, memory-first, refuses-last, memory-last, room-left, few-left, room-there, numbers_ok, taking, memory-taken}
 use Rattle.std.proofs.Common.{rules}
 use Rattle.fetching.proofs.taken.Goals as goal
 
@@ -22,8 +22,7 @@ returns-then-first-ne0 c =
       units = units_of a.us.now a.ss.now a.n;
       window = window_of a.next a.rows a.history;
       tracks = tracks_of a.ts.now a.fs.now;
-      sources = a.sources;
-      destinations = a.destinations;
+      operands = a.operands;
       fixed = a.fixed;
       cycles = a.latency;
       op = a.op;
@@ -44,13 +43,12 @@ returns-then-no-ne0 c =
       units = units_of a.us.now a.ss.now a.n;
       window = window_of a.next a.rows a.history;
       tracks = tracks_of a.ts.now a.fs.now;
-      sources = a.sources;
-      destinations = a.destinations;
+      operands = a.operands;
       fixed = a.fixed;
       cycles = a.latency;
       op = a.op;
     } in
-    let p : first_of (before-names l) ≡ none = no_number c.fetch-first.ensures c.if-first-ne0.false in
+    let p : first_of (before-names l) ≡ None = no_number c.fetch-first.ensures c.if-first-ne0.false in
     let h = some_number c.fetch_names-no.ensures c.if-no-ne0.true in
     record {
       done = refuses-last l c.if-no-ne0.true p h;
@@ -67,15 +65,14 @@ free_place-place-requires c =
       units = units_of a.us.now a.ss.now a.n;
       window = window_of a.next a.rows a.history;
       tracks = tracks_of a.ts.now a.fs.now;
-      sources = a.sources;
-      destinations = a.destinations;
+      operands = a.operands;
       fixed = a.fixed;
       cycles = a.latency;
       op = a.op;
     } in
-    let p : first_of (before-names l) ≡ none = no_number c.fetch-first.ensures c.if-first-ne0.false in
+    let p : first_of (before-names l) ≡ None = no_number c.fetch-first.ensures c.if-first-ne0.false in
     let n = length a.cells.now in
-    let s : first_of (after-names l n) ≡ none = no_number c.fetch_names-no.ensures c.if-no-ne0.false in
+    let s : first_of (after-names l n) ≡ None = no_number c.fetch_names-no.ensures c.if-no-ne0.false in
     let ok = c.requires.takable.holds.valid.parts.board in
     record {
       lent = record { size = c.requires.sized; ok = ok.units };
@@ -84,8 +81,8 @@ free_place-place-requires c =
       gone_bound = ok.gone;
     }
 
-pub queued-q-requires : goal.queued-q-requires
-queued-q-requires c =
+pub queued-requires : goal.queued-requires
+queued-requires c =
     let a = c.args in
     let l : Loan =
     record {
@@ -93,23 +90,21 @@ queued-q-requires c =
       units = units_of a.us.now a.ss.now a.n;
       window = window_of a.next a.rows a.history;
       tracks = tracks_of a.ts.now a.fs.now;
-      sources = a.sources;
-      destinations = a.destinations;
+      operands = a.operands;
       fixed = a.fixed;
       cycles = a.latency;
       op = a.op;
     } in
-    let p : first_of (before-names l) ≡ none = no_number c.fetch-first.ensures c.if-first-ne0.false in
+    let p : first_of (before-names l) ≡ None = no_number c.fetch-first.ensures c.if-first-ne0.false in
     let n = length a.cells.now in
-    let s : first_of (after-names l n) ≡ none = no_number c.fetch_names-no.ensures c.if-no-ne0.false in
+    let s : first_of (after-names l n) ≡ None = no_number c.fetch_names-no.ensures c.if-no-ne0.false in
     record {
-      sources_len_bound = few-reads l n p s c.requires.takable;
-      writes_len_bound = few-writes l n p s c.requires.takable;
+      operands_ok = numbers_ok l n p s c.requires.takable;
       place_bound = c.free_place-place.ensures.there;
     }
 
-pub push_back-queue1-requires : goal.push_back-queue1-requires
-push_back-queue1-requires c =
+pub push_back-requires : goal.push_back-requires
+push_back-requires c =
     let a = c.args in
     let l : Loan =
     record {
@@ -117,19 +112,18 @@ push_back-queue1-requires c =
       units = units_of a.us.now a.ss.now a.n;
       window = window_of a.next a.rows a.history;
       tracks = tracks_of a.ts.now a.fs.now;
-      sources = a.sources;
-      destinations = a.destinations;
+      operands = a.operands;
       fixed = a.fixed;
       cycles = a.latency;
       op = a.op;
     } in
-    let p : first_of (before-names l) ≡ none = no_number c.fetch-first.ensures c.if-first-ne0.false in
+    let p : first_of (before-names l) ≡ None = no_number c.fetch-first.ensures c.if-first-ne0.false in
     let n = length a.cells.now in
-    let s : first_of (after-names l n) ≡ none = no_number c.fetch_names-no.ensures c.if-no-ne0.false in
+    let s : first_of (after-names l n) ≡ None = no_number c.fetch_names-no.ensures c.if-no-ne0.false in
     let r = room-left l n p s c.requires.takable in
     record {
       queue_ok = c.requires.takable.holds.valid.parts.board.queue;
-      queued_ok = c.queued-q.ensures.ok;
+      queued_ok = c.queued.ensures.ok;
       len_bound = omega (arith, r);
     }
 
@@ -142,15 +136,14 @@ open-requires c =
       units = units_of a.us.now a.ss.now a.n;
       window = window_of a.next a.rows a.history;
       tracks = tracks_of a.ts.now a.fs.now;
-      sources = a.sources;
-      destinations = a.destinations;
+      operands = a.operands;
       fixed = a.fixed;
       cycles = a.latency;
       op = a.op;
     } in
-    let p : first_of (before-names l) ≡ none = no_number c.fetch-first.ensures c.if-first-ne0.false in
+    let p : first_of (before-names l) ≡ None = no_number c.fetch-first.ensures c.if-first-ne0.false in
     let n = length a.cells.now in
-    let s : first_of (after-names l n) ≡ none = no_number c.fetch_names-no.ensures c.if-no-ne0.false in
+    let s : first_of (after-names l n) ≡ None = no_number c.fetch_names-no.ensures c.if-no-ne0.false in
     let k = c.requires.takable.holds.valid.parts in
     record {
       window_ok = k.window;
@@ -168,20 +161,19 @@ returns c =
       units = units_of a.us.now a.ss.now a.n;
       window = window_of a.next a.rows a.history;
       tracks = tracks_of a.ts.now a.fs.now;
-      sources = a.sources;
-      destinations = a.destinations;
+      operands = a.operands;
       fixed = a.fixed;
       cycles = a.latency;
       op = a.op;
     } in
-    let p : first_of (before-names l) ≡ none = no_number c.fetch-first.ensures c.if-first-ne0.false in
+    let p : first_of (before-names l) ≡ None = no_number c.fetch-first.ensures c.if-first-ne0.false in
     let n = length a.cells.now in
-    let s : first_of (after-names l n) ≡ none = no_number c.fetch_names-no.ensures c.if-no-ne0.false in
+    let s : first_of (after-names l n) ≡ None = no_number c.fetch_names-no.ensures c.if-no-ne0.false in
     let o = c.open.ensures in
     let size : length c.args.op.disassembly.bytes ≡ 64 = search rules in
     record {
       done =
-          taking l n p s c.free_place-place.ensures c.sequential_address-pc.ensures c.queued-q.ensures c.push_back-queue1.ensures o.tracks
+          taking l n p s c.free_place-place.ensures c.sequential_address.ensures c.queued.ensures c.push_back.ensures o.tracks
           size c.requires.takable;
       memory = memory-taken l p a.cells.now s o.memory;
       tracks = o.lent.size;

@@ -1,6 +1,5 @@
 use mathlib.Core.Path.{sym, ap, ◌∙◌}
-use mathlib.Core.Option.{Option}
-use Rattle.laws.specs.Optional.{omap}
+use Rattle.std.specs.Prelude.{Option, option_map}
 use Rattle.model.specs.Op.{Op}
 use Rattle.model.specs.Views.{offer_view}
 use Rattle.model.specs.Calls.{offered}
@@ -16,7 +15,7 @@ pub returns-then-writing-ge64 : goal.returns-then-writing-ge64
 unfolding view_answer
 returns-then-writing-ge64 c ts ns = let s = c.args in
     sym
-    (ap (λ (o : Option Op). offered (omap offer_view o))
+    (ap (λ (o : Option Op). offered (option_map offer_view o))
     (no_op (pool-legend s.decoded ts ns) (units_of s.us.now s.ss.now s.n) c.if-writing-ge64.true))
 
 pub returns : goal.returns

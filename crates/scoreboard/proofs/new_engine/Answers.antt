@@ -1,6 +1,6 @@
 use mathlib.Core.Path.{◌≡◌, refl, sym, subst, ap, ◌∙◌}
 use mathlib.Core.Bool.{false}
-use mathlib.Core.Option.{none as no-status}
+use Rattle.std.specs.Prelude.{None as no-status}
 use mathlib.Core.List.{[], map}
 use native.Mathlib.Omega.{arith}
 use lib.Dec.{T}
@@ -26,23 +26,23 @@ use Rattle.engine.proofs.Dropping.{empty-looks}
 use Rattle.scoreboard.proofs.Fresh.{built-places, built-knows, empty-apart}
 use Rattle.scoreboard.proofs.new_engine.Goals as goal
 
-pub build-units-requires : goal.build-units-requires
-build-units-requires c = c.requires
+pub build-requires : goal.build-requires
+build-requires c = c.requires
 
-pub new-board-requires : goal.new-board-requires
-new-board-requires c =
-    let e = c.build-units.ensures in
+pub new-requires : goal.new-requires
+new-requires c =
+    let e = c.build.ensures in
     let ks = (view_machine c.args.machine).specs in
     record { units_ok = e.ok; units_value = built-places ks e; all = built-knows ks e 0 }
 
-pub new-window-requires : goal.new-window-requires
-new-window-requires c = c.requires.history_most
+pub new-requires-2 : goal.new-requires-2
+new-requires-2 c = c.requires.history_most
 
 pub returns : goal.returns
 unfolding new_state view_engine view_board view_rows from queue_places
-returns c = let fresh = c.new-board.ensures in
-    let win = c.new-window.ensures in
-    let table = c.new-table.ensures in
+returns c = let fresh = c.new.ensures in
+    let win = c.new-2.ensures in
+    let table = c.new-5.ensures in
     let none = sym (known-length table.ok) ∙ ap (λ (t : Table). length t.known) table.is in
     let x : Frame =
     record {
@@ -51,31 +51,31 @@ returns c = let fresh = c.new-board.ensures in
       rows = [];
       next = 0;
     } in
-    let idle : c.new-board.result.front.in_cycle ≡ false = ap (λ (t : State). t.front.in_cycle) (fresh.is x) in
+    let idle : c.new.result.front.in_cycle ≡ false = ap (λ (t : State). t.front.in_cycle) (fresh.is x) in
     record {
       is =
           fresh.is _
-          ∙ state-by (c.build-units.ensures.is _) refl refl refl refl refl
+          ∙ state-by (c.build.ensures.is _) refl refl refl refl refl
           (ap (λ (k : Window). front_of false false false false false c.args.entry k.next k.next) win.is)
-          (ap (λ (k : Window). log_of no_stats [] (view_rows k c.new-tracks.result c.new-rows.result) no-status) win.is);
+          (ap (λ (k : Window). log_of no_stats [] (view_rows k c.new-3.result c.new-7.result) no-status) win.is);
       ok =
           record {
             board = fresh.ok;
             window = win.ok;
-            tracks = c.new-tracks.ensures.ok;
-            rows = c.new-rows.ensures.ok;
+            tracks = c.new-3.ensures.ok;
+            rows = c.new-7.ensures.ok;
             machine = c.requires;
             table = table.ok;
-            decoded = c.new-decoded.ensures.ok;
-            texts = c.new-texts.ensures.ok;
+            decoded = c.new-4.ensures.ok;
+            texts = c.new-6.ensures.ok;
             history = ap (λ (k : Window). k.history) win.is ∙ omega (arith, c.requires.history_least);
             known = none ∙ sym fresh.known;
-            looks = empty-looks _ c.new-board.result fresh.queue (ap (λ (t : Table). length t.held) table.is ∙ sym fresh.known);
+            looks = empty-looks _ c.new.result fresh.queue (ap (λ (t : Table). length t.held) table.is ∙ sym fresh.known);
             apart =
-                empty-apart c.new-board.result (capacities (view_machine c.args.machine).specs)
-                (ap places fresh.units ∙ c.build-units.ensures.places) (ap (map (λ (q : Queued). q.place)) fresh.queue) fresh.gone;
+                empty-apart c.new.result (capacities (view_machine c.args.machine).specs)
+                (ap places fresh.units ∙ c.build.ensures.places) (ap (map (λ (q : Queued). q.place)) fresh.queue) fresh.gone;
             vacant = fresh.vacant;
-            begun = λ h o. false-T c.new-board.result.front.in_cycle idle (subst T (sym h) tt);
-            named = λ h. subst (All (Names (taken_places c.new-board.result))) (sym fresh.waits) tt;
+            begun = λ h o. false-T c.new.result.front.in_cycle idle (subst T (sym h) tt);
+            named = λ h. subst (All (Names (taken_places c.new.result))) (sym fresh.waits) tt;
           };
     }

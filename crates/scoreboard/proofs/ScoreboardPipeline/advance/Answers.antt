@@ -1,7 +1,6 @@
 use mathlib.Core.Path.{◌≡◌, sym, subst, ap, ◌∙◌}
 use lib.ListN.{length}
 use Rattle.model.specs.Calls.{advance, memory_after}
-use Rattle.op.specs.View.{view_maybe_number}
 use Rattle.timeline.specs.declared.Window.{Window}
 use Rattle.engine.specs.View.{view_engine}
 use Rattle.advancing.specs.Advance.{by_value, Restable, Rests, RestWrites}
@@ -22,7 +21,7 @@ rest_of-r-requires-else-rows-history c = let e = parts c.args.self in
 pub shape_of-cells : goal.shape_of-cells
 shape_of-cells c =
     let e = parts c.args.self in
-    let t = view_maybe_number c.args.redirect in
+    let t = c.args.redirect in
     let m = c.args.cells.now in
     let left : c.if-rows-history.cells ≡ memory_after (view_engine e) (advance t (length m)) m =
     elim c.if-rows-history.branch [
@@ -38,7 +37,7 @@ shape_of-cells c =
 pub returns : goal.returns
 returns c =
     let e = parts c.args.self in
-    let t = view_maybe_number c.args.redirect in
+    let t = c.args.redirect in
     let m = c.args.cells.now in
     let left : c.if-rows-history.cells ≡ memory_after (view_engine e) (advance t (length m)) m =
     elim c.if-rows-history.branch [

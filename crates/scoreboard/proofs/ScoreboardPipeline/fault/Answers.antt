@@ -15,8 +15,8 @@ use Rattle.scoreboard.specs.View.{parts}
 use Rattle.scoreboard.proofs.ScoreboardPipeline.fault.Goals.{then-no-eq0, else-no-eq0}
 use Rattle.scoreboard.proofs.ScoreboardPipeline.fault.Goals as goal
 
-pub stopped-b-requires : goal.stopped-b-requires
-stopped-b-requires c =
+pub stopped-self-requires : goal.stopped-self-requires
+stopped-self-requires c =
     record {
       board_ok = c.requires.parts.board;
       len_bound = short-text c.args.note (row-passes 2 [] (no_number c.fault-no.ensures c.if-no-eq0.true)).0;
@@ -29,8 +29,8 @@ returns c =
     let p = c.requires.parts in
     elim c.if-no-eq0.branch [
       | then-no-eq0 w ↦
-          let after = w.stopped-b.ensures in
-          settled-done c.requires c.fault-no.ensures c.done_or.ensures (stopped-engine w.stopped-b.result e) w.if-no-eq0.true
+          let after = w.stopped-self.ensures in
+          settled-done c.requires c.fault-no.ensures c.done_or.ensures (stopped-engine w.stopped-self.result e) w.if-no-eq0.true
           (ap parts w.self-is) (λ m. refl)
           (stopped-is p after)
           (stopped-parts p after

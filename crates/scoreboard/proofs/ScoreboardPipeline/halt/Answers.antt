@@ -1,11 +1,11 @@
 use mathlib.Core.Path.{◌≡◌, refl, ap, ◌∙◌}
 use mathlib.Core.Bool.{true, false, ◌||◌}
 use Rattle.laws.specs.Texts.{Text, bytes}
-use Rattle.laws.specs.Lists.{any}
+use Rattle.std.specs.List.{list_any}
 use Rattle.model.specs.State.{State}
 use Rattle.model.specs.Write.{stopped, halt}
 use Rattle.model.specs.Calls.{calls, bad_text}
-use Rattle.op.specs.View.{shown}
+use Rattle.op.specs.Chars.{shown}
 use Rattle.board.specs.View.{view_board}
 use Rattle.engine.specs.View.{frame_of, view_engine, view_answer}
 use Rattle.engine.proofs.Fits.{short-text}
@@ -15,12 +15,12 @@ use Rattle.scoreboard.specs.View.{parts}
 use Rattle.scoreboard.proofs.ScoreboardPipeline.halt.Goals as goal
 
 short-word : bad_text 64 (bytes "halted") ≡ false
-unfolding calls any bytes
+unfolding calls bytes
 short-word = refl
 
-pub stopped-b-requires : goal.stopped-b-requires
+pub stopped-self-requires : goal.stopped-self-requires
 unfolding shown bytes
-stopped-b-requires c =
+stopped-self-requires c =
     record {
       board_ok = c.requires.parts.board;
       len_bound = short-text c.from_slice.result (ap (bad_text 64) c.from_slice.ensures ∙ short-word);
@@ -30,7 +30,7 @@ pub returns : goal.returns
 unfolding view_engine view_answer view_board calls stopped halt shown bytes
 returns c = let e = parts c.args.self in
     let p = c.requires.parts in
-    let after = c.stopped-b.ensures in
+    let after = c.stopped-self.ensures in
     does-taken c.requires refl (λ m. refl)
     (stopped-is p after ∙ ap (λ (t : Text). stopped true false t (view_engine e)) c.from_slice.ensures)
     (stopped-parts p after (ap (λ (x : State). x.front.halted || x.front.faulted) (after.is (frame_of e))))

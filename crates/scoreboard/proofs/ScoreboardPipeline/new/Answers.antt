@@ -1,13 +1,13 @@
 use Prim.Native.Nat.{ℕ, ◌*◌, ◌≤◌, max}
 use mathlib.Core.Path.{◌≡◌, refl, sym, subst, ap, ◌∙◌}
-use mathlib.Core.Option.{Option, none, some}
+use Rattle.std.specs.Prelude.{Option, None, Some}
 use mathlib.Core.Bool.{Bool, true, false}
 use mathlib.Core.List.{[], ◌∷◌}
 use lib.ListN.{length}
 use borrow.Author.Tests.{ltb-false}
 use native.Mathlib.Omega.{arith}
 use Rattle.laws.specs.Optional.{when_some}
-use Rattle.laws.specs.Lists.{any}
+use Rattle.std.specs.List.{list_any}
 use Rattle.laws.proofs.Choices.{none-some}
 use Rattle.laws.proofs.Tests.{cond-eq, cond-ne}
 use Rattle.model.specs.Config.{PipelineShape, Machine, machine_of, specs_or_generic, capacities, generic_unit}
@@ -20,16 +20,15 @@ use Rattle.config.specs.View.{view_shape, view_machine}
 use Rattle.config.specs.Checks.{nothing_declared}
 use Rattle.config.proofs.Checks.{accepted}
 use Rattle.checks.specs.Numbered.{numbered}
-use Rattle.checks.proofs.Table.{well}
 use Rattle.engine.specs.View.{view_answer}
 use Rattle.scoreboard.specs.Calls.{new_state}
 use Rattle.scoreboard.proofs.ScoreboardPipeline.new.Goals as goal
 
-nothing-made : make_refusal nothing_declared 51200 ≡ none
-unfolding make_refusal make_checks first_of too_big specs_or_generic capacities generic_unit any extra_overflows
+nothing-made : make_refusal nothing_declared 51200 ≡ None
+unfolding make_refusal make_checks first_of too_big specs_or_generic capacities generic_unit extra_overflows
 nothing-made = refl
 
-last-no : (a b c t : Bool) → first_of ((1, a) ∷ (2, b) ∷ (3, c) ∷ (13, t) ∷ []) ≡ none → t ≡ false
+last-no : (a b c t : Bool) → first_of ((1, a) ∷ (2, b) ∷ (3, c) ∷ (13, t) ∷ []) ≡ None → t ≡ false
 unfolding first_of
 last-no true b c t e = none-some 1 (sym e)
 last-no false true c t e = none-some 2 (sym e)
@@ -38,13 +37,9 @@ last-no false false false true e = none-some 13 (sym e)
 last-no false false false false e = refl
 
 -- A machine that is made has its cell memory.
-enough : (d : PipelineShape) (lent : ℕ) → make_refusal d lent ≡ none → (machine_of d).history * 200 ≤ lent
+enough : (d : PipelineShape) (lent : ℕ) → make_refusal d lent ≡ None → (machine_of d).history * 200 ≤ lent
 unfolding make_refusal make_checks machine_of
-enough d lent e = ltb-false lent (max 1 d.history * 200) (last-no (too_big d) (any bad_spec_name d.units) (extra_overflows d.times) _ e)
-
-pub number_of-no-requires : goal.number_of-no-requires
-unfolding make_refusal make_checks
-number_of-no-requires c = well c.checked.result _ (omega arith, (omega arith, (omega arith, (omega arith, tt)))) c.checked.ensures
+enough d lent e = ltb-false lent (max 1 d.history * 200) (last-no (too_big d) (list_any bad_spec_name d.units) (extra_overflows d.times) _ e)
 
 pub new_engine-requires : goal.new_engine-requires
 new_engine-requires c = c.generic.ensures.ok
@@ -53,7 +48,7 @@ pub returns-then-no-ne0 : goal.returns-then-no-ne0
 unfolding numbered view_answer make_memory new new_state
 returns-then-no-ne0 c =
     let no = c.number_of-no.result in
-    let h = sym (c.number_of-no.ensures ∙ c.checked.ensures) ∙ cond-ne none (some no) c.if-no-ne0.true in
+    let h = sym (c.number_of-no.ensures ∙ c.checked.ensures) ∙ cond-ne None (Some no) c.if-no-ne0.true in
     record {
       made =
           record {
@@ -72,13 +67,13 @@ returns-then-no-ne0 c =
 
 pub machine-machine-requires : goal.machine-machine-requires
 unfolding numbered
-machine-machine-requires c = accepted _ _ (sym (c.number_of-no.ensures ∙ c.checked.ensures) ∙ cond-eq none (some c.number_of-no.result) c.if-no-ne0.false)
+machine-machine-requires c = accepted _ _ (sym (c.number_of-no.ensures ∙ c.checked.ensures) ∙ cond-eq None (Some c.number_of-no.result) c.if-no-ne0.false)
 
 pub clear-requires : goal.clear-requires
 unfolding numbered machine_of view_machine
 clear-requires c =
     let no = c.number_of-no.result in
-    let h = sym (c.number_of-no.ensures ∙ c.checked.ensures) ∙ cond-eq none (some no) c.if-no-ne0.false in
+    let h = sym (c.number_of-no.ensures ∙ c.checked.ensures) ∙ cond-eq None (Some no) c.if-no-ne0.false in
     subst (λ (k : Machine). k.history * 200 ≤ length c.args.cells.now) (sym c.machine-machine.ensures.is)
     (enough (view_shape c.args.shape) (length c.args.cells.now) h)
 
@@ -89,7 +84,7 @@ pub returns : goal.returns
 unfolding numbered view_answer make_memory memory_made new new_state machine_of view_machine
 returns c =
     let no = c.number_of-no.result in
-    let h = sym (c.number_of-no.ensures ∙ c.checked.ensures) ∙ cond-eq none (some no) c.if-no-ne0.false in
+    let h = sym (c.number_of-no.ensures ∙ c.checked.ensures) ∙ cond-eq None (Some no) c.if-no-ne0.false in
     let made = c.new_engine-2.ensures.is ∙ ap (λ (k : Machine). new_state k c.args.entry) c.machine-machine.ensures.is in
     record {
       made =

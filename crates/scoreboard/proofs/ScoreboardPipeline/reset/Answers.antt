@@ -1,6 +1,6 @@
 use mathlib.Core.Path.{refl, ap, ◌∙◌}
 use mathlib.Core.Bool.{false}
-use mathlib.Core.Option.{none}
+use Rattle.std.specs.Prelude.{None}
 use mathlib.Core.List.{[]}
 use native.Mathlib.Omega.{arith}
 use lib.ListN.{length}
@@ -58,9 +58,9 @@ returns c =
                 (fresh-is p f u e.board.front.enabled b.log.stats k
                 ∙ ap
                 (λ (a : Stats).
-                state (view_machine e.machine) (build_units 0 (view_machine e.machine).specs) [] [] [] (marks false false) (offer_of none false)
+                state (view_machine e.machine) (build_units 0 (view_machine e.machine).specs) [] [] [] (marks false false) (offer_of None false)
                 (front_of e.board.front.enabled false false false false c.args.address 0 0)
-                (log_of a [] [] none))
+                (log_of a [] [] None))
                 (fresh-stats p f u e.board.front.enabled b.log.stats k))
                 (fresh-parts p f u e.board.front.enabled b.log.stats k
                 (record { few = omega arith; past = omega arith; least = p.window.least; most = p.window.most })

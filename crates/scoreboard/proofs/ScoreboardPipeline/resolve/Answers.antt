@@ -1,7 +1,7 @@
 use Prim.Native.Nat.{◌<◌}
 use mathlib.Core.Path.{refl, sym, ◌∙◌}
 use mathlib.Core.Bool.{not}
-use mathlib.Core.Option.{none, some}
+use Rattle.std.specs.Prelude.{None, Some}
 use mathlib.Core.List.{[]}
 use Rattle.laws.specs.Optional.{is_none}
 use Rattle.laws.proofs.Tests.{cond-eq}
@@ -25,7 +25,7 @@ resolve_answer-answer-requires c =
     let h : b.offer.writing < 64 =
     below_64 b.offer.writing
     (second-no (not b.front.in_cycle) (is_none (index b.offer.writing)) []
-    (sym c.resolve-no.ensures ∙ cond-eq none (some c.resolve-no.result) c.if-no-ne0.false)) in
+    (sym c.resolve-no.ensures ∙ cond-eq None (Some c.resolve-no.result) c.if-no-ne0.false)) in
     record { units_ok = p.board.units; decoded_pool_ok = p.decoded; writing_bound = h; writing_lt_len = p.board.offer h }
 
 pub returns-then-no-ne0 : goal.returns-then-no-ne0
@@ -35,5 +35,5 @@ returns-then-no-ne0 c = settled-refused c.requires c.resolve-no.ensures c.done_o
 pub returns-else-no-ne0 : goal.returns-else-no-ne0
 unfolding numbered view_engine view_board refusal checks no_offer run reply offered_op
 returns-else-no-ne0 c = let e = parts c.args.self in
-    does-taken c.requires (sym c.resolve-no.ensures ∙ cond-eq none (some c.resolve-no.result) c.if-no-ne0.false)
+    does-taken c.requires (sym c.resolve-no.ensures ∙ cond-eq None (Some c.resolve-no.result) c.if-no-ne0.false)
     (λ m. c.resolve_answer-answer.ensures e.texts (view_held e.table)) refl c.requires.parts

@@ -11,8 +11,8 @@ use Rattle.scoreboard.specs.View.{parts}
 use Rattle.scoreboard.proofs.ScoreboardPipeline.set_capacity.Goals.{then-no-eq0, else-no-eq0}
 use Rattle.scoreboard.proofs.ScoreboardPipeline.set_capacity.Goals as goal
 
-pub noted-noted-requires : goal.noted-noted-requires
-noted-noted-requires c =
+pub noted-self-requires : goal.noted-self-requires
+noted-self-requires c =
     let e = parts c.args.self in
     record {
       machine_ok = c.requires.parts.machine;
@@ -21,8 +21,8 @@ noted-noted-requires c =
           c.if-no-eq0.true).1;
     }
 
-pub rebuilt-built-requires : goal.rebuilt-built-requires
-rebuilt-built-requires c = record { units_ok = c.requires.parts.board.units; machine_ok = c.noted-noted.ensures.ok }
+pub rebuilt-self-requires : goal.rebuilt-self-requires
+rebuilt-self-requires c = record { units_ok = c.requires.parts.board.units; machine_ok = c.noted-self.ensures.ok }
 
 pub returns : goal.returns
 unfolding view_engine view_board refusal checks run reply with_noted noted_specs
@@ -31,8 +31,8 @@ returns c =
     let p = c.requires.parts in
     elim c.if-no-eq0.branch [
       | then-no-eq0 w ↦
-          let u = w.rebuilt-built in
-          let m = w.noted-noted in
+          let u = w.rebuilt-self in
+          let m = w.noted-self in
           let outside =
           (capacity-free e.board.front.in_cycle c.args.kind c.args.instances (view_machine e.machine).specs c.capacity-no.ensures
           w.if-no-eq0.true).0 in

@@ -1,7 +1,7 @@
 use mathlib.Core.Path.{◌≡◌, refl, sym, ap, ◌∙◌}
 use mathlib.Core.Bool.{Bool, false}
 use mathlib.Core.Logic.{inl, inr}
-use Rattle.laws.specs.Lists.{any}
+use Rattle.std.specs.List.{list_any}
 use Rattle.model.specs.Units.{is_busy}
 use Rattle.model.specs.Scoreboard.{rebuilt}
 use Rattle.config.specs.View.{view_machine}
@@ -25,7 +25,7 @@ pub returns-else-any_busy : goal.returns-else-any_busy
 unfolding rebuilt
 returns-else-any_busy c = let us = c.args.units in
     let ks = (view_machine c.args.machine).specs in
-    let none : (g : Legend) → any is_busy (view_units g us) ≡ false = λ g. sym (c.any_busy.ensures g) ∙ c.if-any_busy.false in
+    let none : (g : Legend) → list_any is_busy (view_units g us) ≡ false = λ g. sym (c.any_busy.ensures g) ∙ c.if-any_busy.false in
     let built = c.build.ensures in
     record {
       is = λ g. built.is g ∙ ap (λ (b : Bool). rebuilt b ks (view_units g us)) (sym (none g));
