@@ -1,34 +1,19 @@
 -- The parts of answers as bytes (docs/CALLS.md, The answers).
-use Rattle.std.specs.Prelude.{ℕ, zero, suc, ◌-◌, ◌/◌, ◌%◌, Bool, cond, List, [], ◌∷◌, ◌++◌, length, replicate}
-use Rattle.std.proofs.Math.Option.{Option, none, some}
+use Rattle.std.specs.Prelude.{ℕ, ◌-◌, Bool, List, [], ◌∷◌, ◌++◌, length, replicate, Option, None, Some}
+use Rattle.std.specs.List.{flat_map}
+use Rattle.std.specs.Int.{w64, to_le_bytes, from_bool}
 use Rattle.laws.specs.Texts.{Text}
 use Rattle.capability.specs.declared.PipelineHazardKind.{PipelineHazardKind}
 use Rattle.capability.specs.Numbers.{class_number, hazard_number, trace_number, role_number, edge_number, state_number, entry_number}
 use Rattle.model.specs.State.{Stats}
-use Rattle.model.specs.Views.{
-  SlotView,
-  OfferView,
-  StatusView,
-  StageView,
-  Edge,
-  UnitView,
-  TraceView,
-  RowView,
-  CellView,
-  OperandView,
-  StationView,
-}
+use Rattle.model.specs.Views.{SlotView, OfferView, StatusView, StageView, Edge, UnitView, TraceView, RowView, CellView, OperandView, StationView}
 
--- n bytes of a number, the lowest first.
-unfoldable pub little_bytes : ℕ → ℕ → List ℕ
-little_bytes zero x = []
-little_bytes (suc n) x = x % 256 ∷ little_bytes n (x / 256)
-
+-- Eight bytes, the lowest first.
 unfoldable pub number_bytes : ℕ → List ℕ
-number_bytes x = little_bytes 8 x
+number_bytes x = to_le_bytes w64 x
 
 unfoldable pub flag_byte : Bool → ℕ
-flag_byte b = cond b 1 0
+flag_byte b = from_bool b
 
 abbrev pub byte_of : ℕ → List ℕ
 byte_of b = b ∷ []
@@ -39,8 +24,8 @@ pad n l = l ++ replicate (n - length l) 0
 
 -- A flag, and where it is 1 what is there.
 unfoldable pub optional : {A : Type 0} → (A → List ℕ) → Option A → List ℕ
-optional f none = 0 ∷ []
-optional f (some x) = 1 ∷ f x
+optional f None = 0 ∷ []
+optional f (Some x) = 1 ∷ f x
 
 -- The same in n bytes, also where the flag is 0.
 unfoldable pub part : {A : Type 0} → ℕ → (A → List ℕ) → Option A → List ℕ
@@ -59,20 +44,14 @@ offer_bytes v =
 unfoldable pub status_bytes : StatusView → List ℕ
 status_bytes v = flag_byte v.enabled ∷ flag_byte v.sequential ∷ flag_byte v.halted ∷ flag_byte v.faulted ∷ []
 
--- Numbers, one after the other.
-unfoldable pub numbers_bytes : List ℕ → List ℕ
-numbers_bytes [] = []
-numbers_bytes (x ∷ xs) = number_bytes x ++ numbers_bytes xs
-
 unfoldable pub stats_bytes : Stats → List ℕ
 stats_bytes s =
-    numbers_bytes
+    flat_map number_bytes
     (s.cycles ∷ s.committed ∷ s.stalls ∷ s.raw_stalls ∷ s.load_use_stalls ∷ s.branch_stalls ∷ s.functional_unit_stalls
     ∷ s.memory_stalls ∷ s.waw_stalls ∷ s.war_stalls ∷ s.flushes ∷ s.branches ∷ [])
 
-unfoldable pub edges_bytes : List Edge → List ℕ
-edges_bytes [] = []
-edges_bytes (e ∷ es) = e.from ∷ e.to ∷ edge_number e.kind ∷ edges_bytes es
+unfoldable pub edge_bytes : Edge → List ℕ
+edge_bytes e = e.from ∷ e.to ∷ edge_number e.kind ∷ []
 
 unfoldable pub hazard_byte : PipelineHazardKind → List ℕ
 hazard_byte h = hazard_number h ∷ []
@@ -129,7 +108,7 @@ text_bytes t = number_bytes (length t) ++ t
 
 -- All of these unfold where a line says `unfolding laying`.
 unfoldable pub laying : Unit {0}
-unfolding little_bytes number_bytes flag_byte pad optional part offer_bytes status_bytes numbers_bytes stats_bytes edges_bytes
+unfolding number_bytes flag_byte pad optional part offer_bytes status_bytes stats_bytes edge_bytes
     hazard_byte slot_bytes slot_part stage_bytes kind_bytes wait_bytes row_bytes cell_bytes index_part operand_bytes operand_part station_bytes
     claim_bytes text_bytes
 laying = tt

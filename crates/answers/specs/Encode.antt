@@ -1,48 +1,10 @@
 -- An answer as bytes: the number that the call was refused with, or 0 and what was answered.
-use Rattle.std.specs.Prelude.{List, [], ◌∷◌, ℕ}
-use Rattle.model.specs.Calls.{
-  Answer,
-  refused,
-  done,
-  offered,
-  resolved,
-  invitation,
-  shown_status,
-  shown_stats,
-  shown_flag,
-  shown_number,
-  shown_stages,
-  shown_edges,
-  shown_stage,
-  shown_unit,
-  shown_trace,
-  shown_row,
-  shown_cell,
-  shown_station,
-  shown_rename,
-  shown_slot,
-  shown_text,
-}
-use Rattle.traces.specs.declared.texts.Written.{Written}
-use Rattle.traces.specs.declared.texts.Written.TheVariants.{Bytes, Nothing, Refused}
-use Rattle.answers.specs.Bytes.{
-  number_bytes,
-  flag_byte,
-  optional,
-  offer_bytes,
-  status_bytes,
-  stats_bytes,
-  edges_bytes,
-  slot_bytes,
-  stage_bytes,
-  kind_bytes,
-  wait_bytes,
-  row_bytes,
-  cell_bytes,
-  station_bytes,
-  claim_bytes,
-  text_bytes,
-}
+use Rattle.std.specs.Prelude.{List, [], ◌∷◌, ℕ, Some, None, Ok, Err}
+use Rattle.std.specs.List.{flat_map}
+use Rattle.model.specs.Calls.{Answer, refused, done, offered, resolved, invitation, shown_status, shown_stats, shown_flag, shown_number, shown_stages, shown_edges, shown_stage, shown_unit, shown_trace, shown_row, shown_cell, shown_station, shown_rename, shown_slot, shown_text}
+use Rattle.capability.specs.Refusals.{refusal_number}
+use Rattle.traces.specs.Texts.{Written}
+use Rattle.answers.specs.Bytes.{number_bytes, flag_byte, optional, offer_bytes, status_bytes, stats_bytes, edge_bytes, slot_bytes, stage_bytes, kind_bytes, wait_bytes, row_bytes, cell_bytes, station_bytes, claim_bytes, text_bytes}
 
 unfoldable pub encode : Answer → List ℕ
 encode (refused n) = n ∷ []
@@ -55,7 +17,7 @@ encode (shown_stats v) = 0 ∷ stats_bytes v
 encode (shown_flag b) = 0 ∷ flag_byte b ∷ []
 encode (shown_number n) = 0 ∷ number_bytes n
 encode (shown_stages l) = 0 ∷ l
-encode (shown_edges l) = 0 ∷ edges_bytes l
+encode (shown_edges l) = 0 ∷ flat_map edge_bytes l
 encode (shown_stage o) = 0 ∷ optional stage_bytes o
 encode (shown_unit o) = 0 ∷ optional kind_bytes o
 encode (shown_trace o) = 0 ∷ optional wait_bytes o
@@ -68,9 +30,9 @@ encode (shown_text o) = 0 ∷ optional text_bytes o
 
 -- What stands before a text that was written behind it.
 unfoldable pub written_bytes : Written → List ℕ
-written_bytes (Bytes n) = 0 ∷ 1 ∷ number_bytes n
-written_bytes Nothing = 0 ∷ 0 ∷ []
-written_bytes (Refused n) = n ∷ []
+written_bytes (Ok (Some n)) = 0 ∷ 1 ∷ number_bytes n
+written_bytes (Ok None) = 0 ∷ 0 ∷ []
+written_bytes (Err r) = refusal_number r ∷ []
 
 -- Both unfold where a line says `unfolding encoding`.
 unfoldable pub encoding : Unit {0}

@@ -1,3 +1,4 @@
 pub mod Bytes
 pub mod Encode
+pub mod Shown
 pub mod Size

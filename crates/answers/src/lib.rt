@@ -1,7 +1,7 @@
 // Answers as bytes (docs/CALLS.md): each function writes from a place on and hands back the next place.
 #![tactic(auto)]
 
-// Numbers, flags and bytes.
+// What has bytes, and the values that are there or not.
 pub mod parts;
 // An operation, and what shows one: stages, kinds, stations.
 pub mod operations;

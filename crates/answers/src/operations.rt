@@ -1,166 +1,120 @@
-// An operation, and what shows one: stages, kinds and stations. Each whole answer starts with 0, for a call that was not refused.
-ghost use Rattle.std.specs.Prelude.{[], ◌∷◌, ◌+◌, ◌≤◌, length};
+// An operation, and what shows one: stages, kinds and stations.
+ghost use Rattle.std.specs.Prelude.{option_map};
 ghost use Rattle.model.specs.Calls.{shown_slot, shown_stage, shown_unit, shown_station};
-ghost use Rattle.traces.specs.Texts.{Laid};
-ghost use Rattle.occupants.specs.View.{view_slot, view_maybe_slot};
-ghost use Rattle.inspect.specs.View.{
-  view_stage,
-  view_maybe_stage,
-  view_kind,
-  view_maybe_kind,
-  view_operand,
-  view_maybe_operand,
-  view_station,
-  view_maybe_station,
-};
-ghost use Rattle.answers.specs.Bytes.{slot_bytes, slot_part, stage_bytes, kind_bytes, operand_bytes, operand_part, station_bytes};
-ghost use Rattle.answers.specs.Encode.{encode};
+ghost use Rattle.occupants.specs.View.{view_slot};
+ghost use Rattle.inspect.specs.View.{view_stage, view_kind, view_operand, view_station};
+ghost use Rattle.answers.specs.Bytes.{slot_bytes, stage_bytes, kind_bytes, operand_bytes, station_bytes};
+ghost use Rattle.answers.specs.Shown.{slot_shown, stage_shown, kind_shown, station_shown};
 
-use super::parts::{put_byte, put_flag, put_hazard, put_index, put_number, put_two, put_zeros};
-use inspect::kinds::{MaybeKind, PipelineUnitView};
-use inspect::stages::{MaybeStage, PipelineStageView};
-use inspect::stations::{MaybeOperand, MaybeStation, PipelineOperandView, PipelineStationView};
-use occupants::{MaybeSlot, PipelineSlotView};
+use super::parts::{Put, Shown, class_byte, put_part};
+use inspect::kinds::PipelineUnitView;
+use inspect::stages::PipelineStageView;
+use inspect::stations::{PipelineOperandView, PipelineStationView};
+use occupants::PipelineSlotView;
+use traces::texts;
 
-fn put_slot(out: &mut [u8], at: usize, v: PipelineSlotView) -> usize
-    requires { at + 16 ≤ length out.old }
-    ensures { Laid at (slot_bytes (view_slot v)) out.old out.new result }
-{
-    let class = v.class;
-    let hazard = v.hazard;
-    let a = put_number(out, at, v.address);
-    let b = put_byte(out, a, class.as_usize() as u8);
-    let c = put_flag(out, b, v.bubble);
-    let d = put_flag(out, c, v.speculative);
-    let e = put_flag(out, d, v.predicted_taken);
-    let f = put_hazard(out, e, hazard);
-    let g = put_flag(out, f, v.atomic);
-    put_byte(out, g, v.cycles_remaining)
-}
+impl Put for PipelineSlotView {
+    const SIZE: usize = 16;
 
-// Inside a larger part: 17 bytes, also where there is none.
-fn put_slot_part(out: &mut [u8], at: usize, slot: MaybeSlot) -> usize
-    requires { at + 17 ≤ length out.old }
-    ensures { Laid at (slot_part (view_maybe_slot slot)) out.old out.new result }
-{
-    match slot {
-        MaybeSlot::Some(v) => {
-            let next = put_byte(out, at, 1);
-            put_slot(out, next, v)
-        }
-        MaybeSlot::Nothing => put_zeros(out, at, 17),
+    ghost SIZE = { 16 };
+
+    ghost bytes = { λ v. slot_bytes (view_slot v) };
+
+    fn put(self, out: &mut [u8], at: usize) -> usize {
+        let a = self.address.put(out, at);
+        let b = texts::put(
+            out,
+            a,
+            &[
+                class_byte(self.class),
+                u8::from(self.bubble),
+                u8::from(self.speculative),
+                u8::from(self.predicted_taken),
+            ],
+        );
+        let c = put_part(out, b, self.hazard);
+        texts::put(out, c, &[u8::from(self.atomic), self.cycles_remaining])
     }
 }
 
-pub fn put_slot_answer(out: &mut [u8], at: usize, slot: MaybeSlot) -> usize
-    requires { at + 18 ≤ length out.old }
-    ensures { Laid at (encode (shown_slot (view_maybe_slot slot))) out.old out.new result }
-{
-    match slot {
-        MaybeSlot::Some(v) => {
-            let next = put_two(out, at, 0, 1);
-            put_slot(out, next, v)
-        }
-        MaybeSlot::Nothing => put_two(out, at, 0, 0),
+impl Shown for PipelineSlotView {
+    ghost shown = { λ o. shown_slot (option_map view_slot o) };
+
+    ghost laws = { slot_shown };
+}
+
+impl Put for PipelineStageView {
+    const SIZE: usize = 18;
+
+    ghost SIZE = { 18 };
+
+    ghost bytes = { λ v. stage_bytes (view_stage v) };
+
+    fn put(self, out: &mut [u8], at: usize) -> usize {
+        let a = u8::from(self.role).put(out, at);
+        put_part(out, a, self.slot)
     }
 }
 
-fn put_stage(out: &mut [u8], at: usize, v: PipelineStageView) -> usize
-    requires { at + 18 ≤ length out.old }
-    ensures { Laid at (stage_bytes (view_stage v)) out.old out.new result }
-{
-    let role = v.role;
-    let slot = v.slot;
-    let a = put_byte(out, at, role.number());
-    put_slot_part(out, a, slot)
+impl Shown for PipelineStageView {
+    ghost shown = { λ o. shown_stage (option_map view_stage o) };
+
+    ghost laws = { stage_shown };
 }
 
-pub fn put_stage_answer(out: &mut [u8], at: usize, stage: MaybeStage) -> usize
-    requires { at + 20 ≤ length out.old }
-    ensures { Laid at (encode (shown_stage (view_maybe_stage stage))) out.old out.new result }
-{
-    match stage {
-        MaybeStage::Some(v) => {
-            let next = put_two(out, at, 0, 1);
-            put_stage(out, next, v)
-        }
-        MaybeStage::Nothing => put_two(out, at, 0, 0),
+impl Put for PipelineUnitView {
+    const SIZE: usize = 35;
+
+    ghost SIZE = { 35 };
+
+    ghost bytes = { λ v. kind_bytes (view_kind v) };
+
+    fn put(self, out: &mut [u8], at: usize) -> usize {
+        let a = (self.capacity as u64).put(out, at);
+        let b = (self.active as u64).put(out, a);
+        let c = put_part(out, b, self.first);
+        texts::put(out, c, &[class_byte(self.latency_class), self.latency])
     }
 }
 
-fn put_kind(out: &mut [u8], at: usize, v: PipelineUnitView) -> usize
-    requires { at + 35 ≤ length out.old }
-    ensures { Laid at (kind_bytes (view_kind v)) out.old out.new result }
-{
-    let slot = v.first;
-    let class = v.latency_class;
-    let a = put_number(out, at, v.capacity as u64);
-    let b = put_number(out, a, v.active as u64);
-    let c = put_slot_part(out, b, slot);
-    put_two(out, c, class.as_usize() as u8, v.latency)
+impl Shown for PipelineUnitView {
+    ghost shown = { λ o. shown_unit (option_map view_kind o) };
+
+    ghost laws = { kind_shown };
 }
 
-pub fn put_kind_answer(out: &mut [u8], at: usize, kind: MaybeKind) -> usize
-    requires { at + 37 ≤ length out.old }
-    ensures { Laid at (encode (shown_unit (view_maybe_kind kind))) out.old out.new result }
-{
-    match kind {
-        MaybeKind::Some(v) => {
-            let next = put_two(out, at, 0, 1);
-            put_kind(out, next, v)
-        }
-        MaybeKind::Nothing => put_two(out, at, 0, 0),
+impl Put for PipelineOperandView {
+    const SIZE: usize = 3;
+
+    ghost SIZE = { 3 };
+
+    ghost bytes = { λ v. operand_bytes (view_operand v) };
+
+    fn put(self, out: &mut [u8], at: usize) -> usize {
+        let a = self.register.put(out, at);
+        put_part(out, a, self.producer)
     }
 }
 
-fn put_operand(out: &mut [u8], at: usize, v: PipelineOperandView) -> usize
-    requires { at + 3 ≤ length out.old }
-    ensures { Laid at (operand_bytes (view_operand v)) out.old out.new result }
-{
-    let producer = v.producer;
-    let next = put_byte(out, at, v.register);
-    put_index(out, next, producer)
-}
+impl Put for PipelineStationView {
+    const SIZE: usize = 29;
 
-fn put_operand_part(out: &mut [u8], at: usize, operand: MaybeOperand) -> usize
-    requires { at + 4 ≤ length out.old }
-    ensures { Laid at (operand_part (view_maybe_operand operand)) out.old out.new result }
-{
-    match operand {
-        MaybeOperand::Some(v) => {
-            let next = put_byte(out, at, 1);
-            put_operand(out, next, v)
-        }
-        MaybeOperand::Nothing => put_zeros(out, at, 4),
+    ghost SIZE = { 29 };
+
+    ghost bytes = { λ v. station_bytes (view_station v) };
+
+    fn put(self, out: &mut [u8], at: usize) -> usize {
+        let a = self.unit.put(out, at);
+        let b = put_part(out, a, self.tag);
+        let c = put_part(out, b, self.slot);
+        let d = u8::from(self.phase).put(out, c);
+        let e = put_part(out, d, self.operand_0);
+        put_part(out, e, self.operand_1)
     }
 }
 
-fn put_station(out: &mut [u8], at: usize, v: PipelineStationView) -> usize
-    requires { at + 29 ≤ length out.old }
-    ensures { Laid at (station_bytes (view_station v)) out.old out.new result }
-{
-    let tag = v.tag;
-    let slot = v.slot;
-    let phase = v.phase;
-    let first = v.operand_0;
-    let second = v.operand_1;
-    let a = put_byte(out, at, v.unit);
-    let b = put_index(out, a, tag);
-    let c = put_slot_part(out, b, slot);
-    let d = put_byte(out, c, phase.number());
-    let e = put_operand_part(out, d, first);
-    put_operand_part(out, e, second)
-}
+impl Shown for PipelineStationView {
+    ghost shown = { λ o. shown_station (option_map view_station o) };
 
-pub fn put_station_answer(out: &mut [u8], at: usize, station: MaybeStation) -> usize
-    requires { at + 31 ≤ length out.old }
-    ensures { Laid at (encode (shown_station (view_maybe_station station))) out.old out.new result }
-{
-    match station {
-        MaybeStation::Some(v) => {
-            let next = put_two(out, at, 0, 1);
-            put_station(out, next, v)
-        }
-        MaybeStation::Nothing => put_two(out, at, 0, 0),
-    }
+    ghost laws = { station_shown };
 }

@@ -1,84 +1,132 @@
-// Numbers, flags and bytes.
-ghost use Rattle.std.specs.Prelude.{[], ◌∷◌, ◌+◌, ◌≤◌, length, replicate};
+// What has bytes: for each type always as many, but for an optional value that stands alone.
+ghost use Rattle.std.specs.Prelude.{◌≡◌, ℕ, List, [], ◌∷◌, ◌+◌, ◌*◌, ◌≤◌, length, Option};
+ghost use Rattle.std.specs.List.{flat_map};
+ghost use Rattle.capability.specs.Numbers.{class_number};
+ghost use Rattle.model.specs.Calls.{Answer};
 ghost use Rattle.traces.specs.Texts.{Laid};
-ghost use Rattle.registers.specs.View.{view_maybe_index};
-ghost use Rattle.flight.specs.View.{view_hazard};
-ghost use Rattle.answers.specs.Bytes.{number_bytes, flag_byte, hazard_byte, part, index_part};
+ghost use Rattle.answers.specs.Bytes.{byte_of, hazard_byte, number_bytes, optional, part};
+ghost use Rattle.answers.specs.Encode.{encode};
+ghost use Rattle.answers.specs.Shown.{ShownLaws};
 
-use flight::MaybeHazard;
-use registers::MaybeIndex;
-use timeline::cells::fill;
+use capability::{PipelineHazardKind, PipelineInstructionClass};
+use traces::texts;
 
-// Eight bytes, the lowest first.
-pub fn put_number(out: &mut [u8], at: usize, x: u64) -> usize
-    requires { at + 8 ≤ length out.old }
-    ensures { Laid at (number_bytes x) out.old out.new result }
-{
-    let mut left = x;
-    let mut i: usize = 0;
-    while i < 8 {
-        out[at + i] = (left % 256) as u8;
-        left = left / 256;
-        i += 1;
-    }
-    at + 8
+pub trait Put {
+    // How many bytes.
+    const SIZE: usize;
+
+    ghost SIZE: { ℕ };
+
+    ghost bytes: { Self → List ℕ };
+
+    fn put(self, out: &mut [u8], at: usize) -> usize
+        requires { at + SIZE ≤ length out.old }
+        ensures laid { Laid at (bytes self) out.old out.new result }
+        ensures next { result ≡ at + SIZE };
 }
 
-pub fn put_byte(out: &mut [u8], at: usize, b: u8) -> usize
-    requires { at + 1 ≤ length out.old }
-    ensures { Laid at (b ∷ []) out.old out.new result }
-{
-    out[at] = b;
-    at + 1
+// What a call shows, where it is there.
+pub trait Shown: Put {
+    ghost shown: { Option Self → Answer };
+
+    ghost laws: { ShownLaws Self.bytes shown };
 }
 
-pub fn put_two(out: &mut [u8], at: usize, a: u8, b: u8) -> usize
-    requires { at + 2 ≤ length out.old }
-    ensures { Laid at (a ∷ b ∷ []) out.old out.new result }
-{
-    let next = put_byte(out, at, a);
-    put_byte(out, next, b)
-}
+// The lowest byte first.
+#[tactic(auto, unfolding(crate::specs::Bytes::number_bytes))]
+impl Put for u64 {
+    const SIZE: usize = 8;
 
-pub fn put_three(out: &mut [u8], at: usize, a: u8, b: u8, c: u8) -> usize
-    requires { at + 3 ≤ length out.old }
-    ensures { Laid at (a ∷ b ∷ c ∷ []) out.old out.new result }
-{
-    let next = put_byte(out, at, a);
-    put_two(out, next, b, c)
-}
+    ghost SIZE = { 8 };
 
-pub fn put_flag(out: &mut [u8], at: usize, flag: bool) -> usize
-    requires { at + 1 ≤ length out.old }
-    ensures { Laid at (flag_byte flag ∷ []) out.old out.new result }
-{
-    put_byte(out, at, flag as u8)
-}
+    ghost bytes = { number_bytes };
 
-pub fn put_zeros(out: &mut [u8], at: usize, n: usize) -> usize
-    requires { at + n ≤ length out.old }
-    ensures { Laid at (replicate n 0) out.old out.new result }
-{
-    fill(out, at, n, 0);
-    at + n
-}
-
-pub fn put_hazard(out: &mut [u8], at: usize, hazard: MaybeHazard) -> usize
-    requires { at + 2 ≤ length out.old }
-    ensures { Laid at (part 2 hazard_byte (view_hazard hazard)) out.old out.new result }
-{
-    match hazard {
-        MaybeHazard::Some(h) => put_two(out, at, 1, h.number()),
-        MaybeHazard::Nothing => put_two(out, at, 0, 0),
+    fn put(self, out: &mut [u8], at: usize) -> usize {
+        texts::put(out, at, &self.to_le_bytes())
     }
 }
 
-pub fn put_index(out: &mut [u8], at: usize, index: MaybeIndex) -> usize
-    requires { at + 2 ≤ length out.old }
-    ensures { Laid at (index_part (view_maybe_index index)) out.old out.new result }
-{
-    match index {
-        MaybeIndex::Some(n) => put_two(out, at, 1, n),
-        MaybeIndex::Nothing => put_two(out, at, 0, 0),
+impl Put for u8 {
+    const SIZE: usize = 1;
+
+    ghost SIZE = { 1 };
+
+    ghost bytes = { byte_of };
+
+    fn put(self, out: &mut [u8], at: usize) -> usize {
+        texts::put(out, at, &[self])
     }
+}
+
+#[tactic(auto, unfolding(crate::specs::Bytes::hazard_byte))]
+impl Put for PipelineHazardKind {
+    const SIZE: usize = 1;
+
+    ghost SIZE = { 1 };
+
+    ghost bytes = { hazard_byte };
+
+    fn put(self, out: &mut [u8], at: usize) -> usize {
+        texts::put(out, at, &[u8::from(self)])
+    }
+}
+
+#[tactic(auto, unfolding(capability::specs::Numbers::class_number))]
+pub fn class_byte(class: PipelineInstructionClass) -> u8
+    ensures { result ≡ class_number class }
+{
+    class as u8
+}
+
+// Inside a larger part: as many bytes where there is none.
+pub fn put_part<T: Put + Drop>(out: &mut [u8], at: usize, value: Option<T>) -> usize
+    requires { at + (1 + T.SIZE) ≤ length out.old }
+    ensures laid { Laid at (part (1 + T.SIZE) T.bytes value) out.old out.new result }
+    ensures next { result ≡ at + (1 + T.SIZE) }
+{
+    match value {
+        Some(v) => {
+            let next = texts::put(out, at, &[1]);
+            v.put(out, next)
+        }
+        None => {
+            let next = at + (1 + T::SIZE);
+            out[at..next].fill(0);
+            next
+        }
+    }
+}
+
+// A whole answer, which starts with 0 for a call that was not refused.
+#[tactic(auto, unfolding(crate::specs::Bytes::optional))]
+pub fn put_optional<T: Put + Drop>(out: &mut [u8], at: usize, value: Option<T>) -> usize
+    requires { at + (2 + T.SIZE) ≤ length out.old }
+    ensures { Laid at (0 ∷ optional T.bytes value) out.old out.new result }
+{
+    match value {
+        Some(v) => {
+            let next = texts::put(out, at, &[0, 1]);
+            v.put(out, next)
+        }
+        None => texts::put(out, at, &[0, 0]),
+    }
+}
+
+pub fn put_shown<T: Shown + Drop>(out: &mut [u8], at: usize, value: Option<T>) -> usize
+    requires { at + (2 + T.SIZE) ≤ length out.old }
+    ensures { Laid at (encode (T.shown value)) out.old out.new result }
+{
+    put_optional(out, at, value)
+}
+
+// One after the other.
+pub fn put_all<T: Put + Copy>(out: &mut [u8], at: usize, items: &[T]) -> usize
+    requires { at + length items.now * T.SIZE ≤ length out.old }
+    ensures { Laid at (flat_map T.bytes items.now) out.old out.new result }
+{
+    let mut next = at;
+    for item in items {
+        next = item.put(out, next);
+    }
+    next
 }

@@ -1,29 +1,12 @@
 -- A request for a text, by the byte that says which, and the place and the field of an operation that it names.
-use Prim.Native.Nat.{ℕ, ◌+◌, ◌-◌, ◌≤◌}
+use Prim.Native.Nat.{ℕ, ◌+◌, ◌-◌}
 use mathlib.Core.Path.{◌≡◌, sym, ap, ap₂, ◌∙◌}
 use mathlib.Core.List.{List, [], ◌∷◌}
-use lib.ListN.{length, get_or, get_or-eq_default}
+use lib.ListN.{length, get_or}
 use Rattle.model.specs.State.{State}
-use Rattle.model.specs.Requests.{
-  Place,
-  in_queue,
-  in_station,
-  in_stage,
-  in_unit,
-  on_offer,
-  Field,
-  disassembly,
-  destination,
-  fault,
-  source,
-  write,
-  Request,
-  status_message,
-  text_at,
-}
+use Rattle.model.specs.Requests.{Place, in_queue, in_station, in_stage, in_unit, on_offer, Field, disassembly, destination, fault, source, write, Request, status_message, text_at}
 use Rattle.model.specs.Calls.{buffer_after}
-use Rattle.traces.specs.declared.texts.Written.{Written}
-use Rattle.traces.specs.Texts.{written}
+use Rattle.traces.specs.Texts.{Written, written}
 use Rattle.decoding.specs.Bytes.{byte_at, number_at}
 use Rattle.decoding.specs.Calls.{asks, place_at, field_at, request_at}
 use Rattle.calls.proofs.Which.{request-is}
@@ -40,17 +23,9 @@ module _ (l : List ℕ) (at : ℕ) {i : ℕ} (n : i ≡ number_at l (at + 1)) wh
   unfolding place_at
   place-by k e = ap₂ (λ t j. get_or places t (λ i. on_offer) j) (sym e) n
 
-  pub place-last : 4 ≤ byte_at l at → on_offer ≡ place_at l at
-  unfolding place_at
-  place-last h = sym (ap (λ f. f (number_at l (at + 1))) (get_or-eq_default places (λ i. on_offer) h))
-
   pub field-by : (k : ℕ) → byte_at l at ≡ k → get_or fields k write i ≡ field_at l at
   unfolding field_at
   field-by k e = ap₂ (λ t j. get_or fields t write j) (sym e) n
-
-  pub field-last : 4 ≤ byte_at l at → write i ≡ field_at l at
-  unfolding field_at
-  field-last h = ap write n ∙ sym (ap (λ f. f (number_at l (at + 1))) (get_or-eq_default fields write h))
 
 -- q is the request that was answered; the byte is k.
 module _ (l : List ℕ) (at : ℕ) {k : ℕ} (e : byte_at l at ≡ k) {q : Request} (p : q ≡ get_or asks (k - 39) (λ l at. status_message) l at) where

@@ -1,4 +1,5 @@
 -- The calls of a cycle played one after the other.
+use Rattle.op.specs.declared.chars.Chars.{Chars}
 use Prim.Native.Nat.{ℕ, ◌+◌, ◌-◌, ◌≤◌, ◌<◌}
 use mathlib.Core.Path.{◌≡◌, sym, ap, ap₂, subst}
 use mathlib.Core.Bool.{Bool, true, false, cond}
@@ -7,7 +8,6 @@ use native.Mathlib.Omega.{arith}
 use lib.ListN.{length, replicate}
 use Rattle.model.specs.Timeline.{splice}
 use Rattle.model.specs.State.{State}
-use Rattle.op.specs.declared.Name.{Name}
 use Rattle.timeline.specs.declared.Tracks.{Tracks}
 use Rattle.slots.specs.View.{Sized}
 use Rattle.tracks.specs.View.{TracksSized}
@@ -28,7 +28,7 @@ use Rattle.calls.proofs.Plays.{answer-room, step-done, played-first, played-play
 
 -- ── The engine's parts in lent arrays ───────────────────────────────────────
 
-pub record Lines (us : List (List ℕ)) (ss : List ℕ) (ts : List (List ℕ)) (fs : List ℕ) (bs : List (List ℕ)) (ls : List ℕ) (xs : List Name) : Type 0 where
+pub record Lines (us : List (List ℕ)) (ss : List ℕ) (ts : List (List ℕ)) (fs : List ℕ) (bs : List (List ℕ)) (ls : List ℕ) (xs : List (Chars 16)) : Type 0 where
   pub units : Sized us ss
   pub tracks : TracksSized ts fs
   pub names : NamesHeld bs ls xs

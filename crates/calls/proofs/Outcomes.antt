@@ -2,7 +2,7 @@
 use Prim.Native.Nat.{ℕ, ◌≤◌, ◌<◌}
 use mathlib.Core.Path.{◌≡◌, refl, sym, ap, ◌∙◌}
 use mathlib.Core.Bool.{Bool, true, false, cond}
-use mathlib.Core.Option.{Option, none, some}
+use Rattle.std.specs.Prelude.{Option, None, Some}
 use mathlib.Core.List.{List}
 use borrow.Author.Tests.{lt-ltb, le-ltb}
 use native.Mathlib.Omega.{arith}
@@ -13,53 +13,49 @@ use Rattle.model.specs.Timeline.{splice}
 use Rattle.decoding.specs.Script.{Script, script_of, list_formed, decode}
 use Rattle.calls.specs.declared.Tally.{Tally}
 use Rattle.calls.specs.Play.{cells_needed, out_needed, short, script_answers, script_cells, play_answer, play_cells, play_out}
-use Rattle.calls.specs.Tally.{tally_of}
+use Rattle.calls.specs.Tally.{tally, tally_of}
 
 -- ── What the tally tells ────────────────────────────────────────────────────
 
-none-by : (o : Option Script) → (tally_of o).formed ≡ false → o ≡ none
-unfolding tally_of
-none-by none e = refl
-none-by (some d) e = cc
+none-by : (o : Option Script) → None ≡ tally_of o → o ≡ None
+none-by None e = refl
+none-by (Some d) e = cc
 
-some-by : (d : Script) (b : Bool) → (tally_of (cond b (some d) none)).formed ≡ true → cond b (some d) none ≡ some d
-unfolding tally_of
-some-by d true f = refl
-some-by d false f = cc
+some-by : (d : Script) (b : Bool) {t : Tally} → Some t ≡ tally_of (cond b (Some d) None) → (b ≡ true) × (t ≡ tally d)
+some-by d true e = (refl, (cc))
+some-by d false e = cc
 
-module _ (l : List ℕ) {t : Tally} (q : t ≡ tally_of (decode l)) where
-  undecoded : t.formed ≡ false → decode l ≡ none
-  undecoded e = none-by (decode l) (sym (ap (λ x. x.formed) q) ∙ e)
+undecoded : (l : List ℕ) → None ≡ tally_of (decode l) → decode l ≡ None
+undecoded l e = none-by (decode l) e
 
-  module _ (e : t.formed ≡ true) where
-    pub decoded : decode l ≡ some (script_of l)
-    unfolding decode
-    decoded = some-by (script_of l) (list_formed l) (sym (ap (λ x. x.formed) q) ∙ e)
+module _ (l : List ℕ) {t : Tally} (q : Some t ≡ tally_of (decode l)) where
+  pub decoded : decode l ≡ Some (script_of l)
+  unfolding decode
+  decoded = ap (λ b. cond b (Some (script_of l)) None) (some-by (script_of l) (list_formed l) q).0
 
-    pub tallied : t ≡ tally_of (some (script_of l))
-    tallied = q ∙ ap tally_of decoded
+  pub tallied : t ≡ tally (script_of l)
+  unfolding decode
+  tallied = (some-by (script_of l) (list_formed l) q).1
 
-    lent_is : t.lent ≡ cells_needed (script_of l)
-    unfolding tally_of
-    lent_is = ap (λ x. x.lent) tallied
+  lent_is : t.lent ≡ cells_needed (script_of l)
+  lent_is = ap (λ x. x.lent) tallied
 
-    bytes-is : t.bytes ≡ out_needed (script_of l)
-    unfolding tally_of
-    bytes-is = ap (λ x. x.bytes) tallied
+  bytes-is : t.bytes ≡ out_needed (script_of l)
+  bytes-is = ap (λ x. x.bytes) tallied
 
 -- ── The answer, the cell memory and the room for answers ────────────────────
 
 abbrev pub Outcome : (l m out : List ℕ) → ℕ → List ℕ → List ℕ → Type 0
 Outcome l m out r m' out' = (r ≡ play_answer l m out) × ((m' ≡ play_cells l m out) × (out' ≡ play_out l m out))
 
-module _ (l m out : List ℕ) {t : Tally} (q : t ≡ tally_of (decode l)) where
-  pub outcome-unformed : t.formed ≡ false → Outcome l m out 14 m out
+module _ (l m out : List ℕ) where
+  pub outcome-unformed : None ≡ tally_of (decode l) → Outcome l m out 14 m out
   unfolding play_answer play_cells play_out
-  outcome-unformed f =
-      let e = undecoded l q f in
+  outcome-unformed q =
+      let e = undecoded l q in
       (sym (when_some-none 14 _ e), (sym (when_some-none m _ e), sym (when_some-none out _ e)))
 
-  module _ (f : t.formed ≡ true) where
+  module _ {t : Tally} (q : Some t ≡ tally_of (decode l)) where
     abbrev d : Script
     d = script_of l
 
@@ -68,7 +64,7 @@ module _ (l m out : List ℕ) {t : Tally} (q : t ≡ tally_of (decode l)) where
         → Outcome l m out (cond b 13 (out_needed d)) (cond b m (script_cells d m)) (cond b out (splice 0 (script_answers d m) out))
     unfolding play_answer play_cells play_out
     outcome-by b s =
-        let e = decoded l q f in (
+        let e = decoded l q in (
           sym (when_some-some 14 _ e ∙ ap (λ x. cond x 13 (out_needed d)) s),
           (
             sym (when_some-some m _ e ∙ ap (λ x. cond x m (script_cells d m)) s),
@@ -78,19 +74,19 @@ module _ (l m out : List ℕ) {t : Tally} (q : t ≡ tally_of (decode l)) where
 
     pub outcome-lent : length m < t.lent → Outcome l m out 13 m out
     unfolding short
-    outcome-lent h = outcome-by true (or_yes _ (lt-ltb (length m) (cells_needed d) (omega (arith, lent_is l q f))))
+    outcome-lent h = outcome-by true (or_yes _ (lt-ltb (length m) (cells_needed d) (omega (arith, lent_is l q))))
 
     pub outcome-room : length out < t.bytes → Outcome l m out 13 m out
     unfolding short
     outcome-room h =
         outcome-by true
-        (or-yes-second (ltb (length m) (cells_needed d)) (lt-ltb (length out) (out_needed d) (omega (arith, bytes-is l q f))))
+        (or-yes-second (ltb (length m) (cells_needed d)) (lt-ltb (length out) (out_needed d) (omega (arith, bytes-is l q))))
 
     pub outcome-played : {m' out' : List ℕ} → t.lent ≤ length m → t.bytes ≤ length out → m' ≡ script_cells d m
         → out' ≡ splice 0 (script_answers d m) out → Outcome l m out t.bytes m' out'
     unfolding short
     outcome-played h k p s =
-        let fits : ltb (length m) (cells_needed d) ≡ false = le-ltb (length m) (cells_needed d) (omega (arith, lent_is l q f)) in
-        let room : ltb (length out) (out_needed d) ≡ false = le-ltb (length out) (out_needed d) (omega (arith, bytes-is l q f)) in
+        let fits : ltb (length m) (cells_needed d) ≡ false = le-ltb (length m) (cells_needed d) (omega (arith, lent_is l q)) in
+        let room : ltb (length out) (out_needed d) ≡ false = le-ltb (length out) (out_needed d) (omega (arith, bytes-is l q)) in
         let o = outcome-by false (or_no fits room) in
-        (bytes-is l q f ∙ o.0, (p ∙ o.1.0, s ∙ o.1.1))
+        (bytes-is l q ∙ o.0, (p ∙ o.1.0, s ∙ o.1.1))

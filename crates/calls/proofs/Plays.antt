@@ -2,7 +2,7 @@
 use Prim.Native.Nat.{ℕ, ◌+◌, ◌-◌, ◌≤◌, ◌<◌, max}
 use mathlib.Core.Path.{◌≡◌, refl, sym, ap, ap₂, subst, ◌∙◌}
 use mathlib.Core.Bool.{Bool, true, false}
-use mathlib.Core.Option.{Option, none, some}
+use Rattle.std.specs.Prelude.{Option, None, Some}
 use mathlib.Core.List.{List, [], ◌∷◌, ◌++◌}
 use native.Mathlib.Omega.{arith}
 use lib.ListN.{length, get_or, take, drop, replicate, take-append-drop, get_or-replicate}
@@ -12,32 +12,7 @@ use Rattle.laws.specs.Optional.{when_some}
 use Rattle.laws.proofs.Tests.{lt-or-ge}
 use Rattle.model.specs.Timeline.{splice, write_all}
 use Rattle.model.specs.State.{State}
-use Rattle.model.specs.Calls.{
-  Call,
-  start,
-  retire,
-  retry,
-  resolve,
-  advance,
-  fetch,
-  capacity,
-  overlap,
-  halt,
-  fault,
-  reset,
-  redirect,
-  view,
-  cell,
-  text,
-  done,
-  refused,
-  refusal,
-  run,
-  sets,
-  answer,
-  after,
-  memory_after,
-}
+use Rattle.model.specs.Calls.{Call, start, retire, retry, resolve, advance, fetch, capacity, overlap, halt, fault, reset, redirect, view, cell, text, done, refused, refusal, run, sets, answer, after, memory_after}
 use Rattle.engine.specs.Engine.{Engine, Next}
 use Rattle.engine.specs.declared.Answer.{Answer}
 use Rattle.engine.specs.View.{view_engine, view_answer}
@@ -115,16 +90,16 @@ module _ (s : State) where
     shown-after = go (refusal s c)
       where
         go : (o : Option ℕ) → when_some o (run s c) (λ (n : ℕ). s) ≡ s
-        go none = (still c e).0
-        go (some n) = refl
+        go None = (still c e).0
+        go (Some n) = refl
 
     pub shown-cells : (m : List ℕ) → cells_after s c m ≡ m
     unfolding cells_after lend memory_after write_all
     shown-cells m = ap (λ t. t ++ drop (lent_of c) m) (go (refusal s c)) ∙ take-append-drop (lent_of c) m
       where
         go : (o : Option ℕ) → when_some o (write_all (sets s c) (take (lent_of c) m)) (λ (n : ℕ). take (lent_of c) m) ≡ take (lent_of c) m
-        go none = ap (λ w. write_all w (take (lent_of c) m)) (still c e).1
-        go (some n) = refl
+        go None = ap (λ w. write_all w (take (lent_of c) m)) (still c e).1
+        go (Some n) = refl
 
 -- ── One call ────────────────────────────────────────────────────────────────
 
@@ -153,8 +128,8 @@ unfolding encode
 number-room n a b out t h = omega (arith, ap (λ x. length (encode x)) t, one (numbered n))
   where
     one : (o : Option ℕ) → length (encode (when_some o done refused)) ≡ 1
-    one none = refl
-    one (some n) = refl
+    one None = refl
+    one (Some n) = refl
 
 -- A call of the engine, whose answer is laid.
 module _ {c : Call} {e : Engine} {r : Next} (d : Does e c r) where

@@ -13,7 +13,7 @@ use Rattle.laws.proofs.Slices.{All-get_or, All-append}
 use Rattle.laws.proofs.Tests.{and_both, lt-or-ge}
 use Rattle.decoding.specs.Bytes.{byte_at}
 use Rattle.decoding.specs.Calls.{size_at, room_at, text_call, call_at, formed_at}
-use Rattle.decoding.proofs.Sizes.{text-size, parts-text}
+use Rattle.decoding.proofs.Sizes.{text_size, parts-text}
 use Rattle.decoding.proofs.Script.{formed-is}
 use Rattle.answers.specs.Size.{size_of_view, size}
 use Rattle.calls.proofs.Which.{told, told_below, told_text, known}
@@ -34,7 +34,7 @@ module _ (l : List ℕ) (at : ℕ) where
   module _ (e : formed_at l at ≡ true) where
     pub room-there : 39 ≤ byte_at l at → 8 < size_at l at
     unfolding size_at
-    room-there h = text-size h (known l at e)
+    room-there h = text_size h (known l at e)
 
     pub room_small : 39 ≤ byte_at l at → room_at l at ≤ 65535
     room_small h = leb-true (room_at l at) 65535 (and_both (leb (room_at l at) 65535) _ (sym (parts-text l at h) ∙ (formed-is l at e).parts)).0

@@ -2,7 +2,7 @@
 use Prim.Native.Nat.{ℕ, ◌+◌, ◌*◌, ◌≤◌, ◌<◌, max}
 use mathlib.Core.Path.{◌≡◌, refl, sym, ap, ◌∙◌}
 use mathlib.Core.Bool.{true, false}
-use mathlib.Core.Option.{none, some}
+use Rattle.std.specs.Prelude.{Option, None, Some}
 use mathlib.Core.List.{List, [], ◌∷◌}
 use native.Mathlib.Nat.{max-zero}
 use native.Mathlib.Omega.{arith}
@@ -24,9 +24,9 @@ use Rattle.calls.proofs.Room.{size-most}
 
 -- ── A list that is refused, and one that is not ─────────────────────────────
 
-pub decode-none : (l : List ℕ) → list_formed l ≡ false → tally_of none ≡ tally_of (decode l)
+pub decode-none : (l : List ℕ) → list_formed l ≡ false → None ≡ tally_of (decode l)
 unfolding decode
-decode-none l e = sym (ap tally_of (cond_no (some (script_of l)) none e))
+decode-none l e = sym (ap tally_of (cond_no (Some (script_of l)) None e))
 
 module _ (l : List ℕ) where
   pub too_long : 16777216 < length l → list_formed l ≡ false
@@ -82,7 +82,7 @@ sums_next {more = more} {c = c} {lent = lent} e p q r s =
     }
 
 tally-as : {a b c x y z : ℕ} → a ≡ x → b ≡ y → c ≡ z
-    → ◌≡◌ {A = Tally} (record { formed = true; calls = a; bytes = b; lent = c }) (record { formed = true; calls = x; bytes = y; lent = z })
+    → ◌≡◌ {A = Option Tally} (Some (record { calls = a; bytes = b; lent = c })) (Some (record { calls = x; bytes = y; lent = z }))
 tally-as p q r = cc
 
 module _ {l : List ℕ} {calls bytes lent at : ℕ} (s : Scanned l calls bytes lent at) where
@@ -115,8 +115,8 @@ module _ {l : List ℕ} {calls bytes lent at : ℕ} (s : Scanned l calls bytes l
         }
 
   pub scanned-last : length l ≤ 16777216 → machine_formed l ≡ true → length l ≤ at
-      → record { formed = true; calls = calls; bytes = bytes; lent = lent } ≡ tally_of (decode l)
-  unfolding tally_of decode list_formed script_of cells_needed out_needed most_lent all_sizes
+      → Some (record { calls = calls; bytes = bytes; lent = lent }) ≡ tally_of (decode l)
+  unfolding decode list_formed script_of cells_needed out_needed most_lent all_sizes
   scanned-last h m k =
       let end : good l at ≡ true = all_formed-end l (length l) k ∙ eq-eqb at (length l) (omega (arith, s.inside)) in
       let all : list_formed l ≡ true = and_yes (le-leb (length l) 16777216 h) (and_yes m (s.formed ∙ end)) in
@@ -126,4 +126,4 @@ module _ {l : List ℕ} {calls bytes lent at : ℕ} (s : Scanned l calls bytes l
       let room : bytes ≡ 17 + all_sizes (from l 555) = omega (arith, sums.room, ap all_sizes none_left) in
       let memory : lent ≡ max (making_lent l) (most_lent (from l 555)) =
       sym (sums.memory ∙ ap (λ r. max lent (most_lent r)) none_left ∙ max-zero lent) in
-      tally-as count room memory ∙ sym (ap tally_of (cond_yes (some (script_of l)) none all))
+      tally-as count room memory ∙ sym (ap tally_of (cond_yes (Some (script_of l)) None all))

@@ -2,7 +2,7 @@
 use Prim.Native.Nat.{ℕ, ◌+◌, ◌≤◌, max}
 use mathlib.Core.Path.{◌≡◌, refl, sym, ap, ap₂, ◌∙◌}
 use mathlib.Core.Bool.{Bool, true, false, cond}
-use mathlib.Core.Option.{Option, none, some}
+use Rattle.std.specs.Prelude.{Option, None, Some}
 use mathlib.Core.List.{List, [], ◌∷◌, ◌++◌}
 use native.Mathlib.Omega.{arith}
 use types.Run.{OneOf, miss}
@@ -26,53 +26,38 @@ use Rattle.engine.specs.View.{view_answer}
 use Rattle.scoreboard.specs.Calls.{Makes}
 use Rattle.decoding.specs.Machine.{shape_at, entry_at, making_lent, machine_formed}
 use Rattle.decoding.specs.Script.{Script, script_of, list_formed, decode}
-use Rattle.answers.specs.Bytes.{little_bytes, number_bytes}
+use Rattle.answers.specs.Bytes.{number_bytes}
 use Rattle.calls.specs.declared.Tally.{Tally}
-use Rattle.calls.specs.Play.{
-  lend,
-  blocks,
-  cells_played,
-  refused_blocks,
-  most_lent,
-  all_sizes,
-  cells_needed,
-  out_needed,
-  header,
-  cells_made,
-  made_bytes,
-  refused_bytes,
-  script_answers,
-  script_cells,
-}
-use Rattle.calls.specs.Tally.{tally_of}
+use Rattle.calls.specs.Play.{lend, blocks, cells_played, refused_blocks, most_lent, all_sizes, cells_needed, out_needed, header, cells_made, made_bytes, refused_bytes, script_answers, script_cells}
+use Rattle.calls.specs.Tally.{tally}
 use Rattle.calls.specs.Steps.{from, good, AllPlayable}
 use Rattle.calls.proofs.Scans.{machine-there}
 
 -- ── What making answers ─────────────────────────────────────────────────────
 
 module _ (o : Option ℕ) where
-  number_of : {n : ℕ} → refused n ≡ when_some o done refused → o ≡ some n
+  number_of : {n : ℕ} → refused n ≡ when_some o done refused → o ≡ Some n
   number_of = go o
     where
-      go : (o : Option ℕ) {n : ℕ} → refused n ≡ when_some o done refused → o ≡ some n
-      go none e = cc
-      go (some k) e = cc
+      go : (o : Option ℕ) {n : ℕ} → refused n ≡ when_some o done refused → o ≡ Some n
+      go None e = cc
+      go (Some k) e = cc
 
-  pub making-refused : (x : Answer) {n : ℕ} → view_answer x ≡ when_some o done refused → x ≡ Refused n → o ≡ some n
+  pub making-refused : (x : Answer) {n : ℕ} → view_answer x ≡ when_some o done refused → x ≡ Refused n → o ≡ Some n
   unfolding view_answer
   making-refused x e q = number_of (sym (ap view_answer q) ∙ e)
 
-pub making-done : (o : Option ℕ) (x : Answer) → view_answer x ≡ when_some o done refused → OneOf (1 ∷ 2 ∷ 3 ∷ 4 ∷ 5 ∷ 6 ∷ 7 ∷ []) (tag_of answers.the_type x) → o ≡ none
+pub making-done : (o : Option ℕ) (x : Answer) → view_answer x ≡ when_some o done refused → OneOf (1 ∷ 2 ∷ 3 ∷ 4 ∷ 5 ∷ 6 ∷ 7 ∷ []) (tag_of answers.the_type x) → o ≡ None
 unfolding view_answer
-making-done none x e u = refl
-making-done (some k) (Refused n) e u = absurd (miss (1 ∷ 2 ∷ 3 ∷ 4 ∷ 5 ∷ 6 ∷ 7 ∷ []) 0 tt u)
-making-done (some k) Done e u = cc
-making-done (some k) (Offered v) e u = cc
-making-done (some k) NoOffer e u = cc
-making-done (some k) (Resolved t) e u = cc
-making-done (some k) NotResolved e u = cc
-making-done (some k) (Invitation t) e u = cc
-making-done (some k) NoInvitation e u = cc
+making-done None x e u = refl
+making-done (Some k) (Refused n) e u = absurd (miss (1 ∷ 2 ∷ 3 ∷ 4 ∷ 5 ∷ 6 ∷ 7 ∷ []) 0 tt u)
+making-done (Some k) Done e u = cc
+making-done (Some k) (Offered v) e u = cc
+making-done (Some k) NoOffer e u = cc
+making-done (Some k) (Resolved t) e u = cc
+making-done (Some k) NotResolved e u = cc
+making-done (Some k) (Invitation t) e u = cc
+making-done (Some k) NoInvitation e u = cc
 
 -- ── The room ────────────────────────────────────────────────────────────────
 
@@ -85,17 +70,17 @@ pub record Roomy (l m out : List ℕ) (t : Tally) : Type 0 where
   pub calls : t.calls ≡ length (from l 555)
   pub bytes : t.bytes ≡ 17 + all_sizes (from l 555)
 
-decode-formed : (l : List ℕ) (d : Script) → decode l ≡ some d → list_formed l ≡ true
+decode-formed : (l : List ℕ) (d : Script) → decode l ≡ Some d → list_formed l ≡ true
 unfolding decode
 decode-formed l d e = go (list_formed l) e
   where
-    go : (b : Bool) → cond b (some (script_of l)) none ≡ some d → b ≡ true
+    go : (b : Bool) → cond b (Some (script_of l)) None ≡ Some d → b ≡ true
     go true q = refl
     go false q = cc
 
-pub roomy : {l m out : List ℕ} {t : Tally} → decode l ≡ some (script_of l) → t ≡ tally_of (some (script_of l)) → t.lent ≤ length m → t.bytes ≤ length out
+pub roomy : {l m out : List ℕ} {t : Tally} → decode l ≡ Some (script_of l) → t ≡ tally (script_of l) → t.lent ≤ length m → t.bytes ≤ length out
     → Roomy l m out t
-unfolding tally_of script_of cells_needed out_needed list_formed
+unfolding script_of cells_needed out_needed list_formed
 roomy {l} {m} {out} {t} e q h k =
     let f = (and_both (leb (length l) 16777216) _ (decode-formed l (script_of l) e)).1 in
     let g = and_both (machine_formed l) _ f in
@@ -122,7 +107,7 @@ module _ {l m out : List ℕ} {t : Tally} (r : Roomy l m out t) where
     header-room = omega (arith, r.room, ap length p, splice-length 0 (first k) out)
 
     behind : (body : List ℕ) {end : List ℕ} → end ≡ splice 17 body mid → end ≡ splice 0 (header k (script_of l) ++ body) out
-    unfolding header script_of out_needed number_bytes little_bytes
+    unfolding header script_of out_needed number_bytes
     behind body q =
         q ∙ ap (splice 17 body) p ∙ sym (splice-append 0 (first k) body out)
         ∙ ap₂ (λ a b. splice 0 (k ∷ (number_bytes a ++ number_bytes b) ++ body) out) r.calls r.bytes
@@ -143,8 +128,8 @@ unfolding make_memory memory_made
 make-size d m = go (make_refusal d (length m))
   where
     go : (o : Option ℕ) → length (when_some o (memory_made d m) (λ (n : ℕ). m)) ≡ length m
-    go none = write_all-length _ m
-    go (some n) = refl
+    go None = write_all-length _ m
+    go (Some n) = refl
 
 module _ {l m out : List ℕ} {t : Tally} (r : Roomy l m out t) where
   pub making : {n entry : ℕ} {d : PipelineShape} {made : Next} {part : List ℕ} → d ≡ shape_at l → entry ≡ entry_at l → n ≡ making_lent l
@@ -167,10 +152,10 @@ module _ {l m out : List ℕ} {t : Tally} (r : Roomy l m out t) where
     -- ── It is refused ─────────────────────────────────────────────────────────
 
     module _ {k : ℕ} (a : made.answer ≡ Refused k) where
-      number : make_refusal (shape_at l) n ≡ some k
+      number : make_refusal (shape_at l) n ≡ Some k
       number = making-refused (make_refusal (shape_at l) n) made.answer g.makes.answer a
 
-      refusal-of : make_refusal (script_of l).shape (script_of l).lent ≡ some k
+      refusal-of : make_refusal (script_of l).shape (script_of l).lent ≡ Some k
       unfolding script_of
       refusal-of = ap (make_refusal (shape_at l)) (sym g.lent) ∙ number
 
@@ -199,10 +184,10 @@ module _ {l m out : List ℕ} {t : Tally} (r : Roomy l m out t) where
         record { formed = r.formed; lent = omega (arith, r.lent, made-size); room = header-room r 0 p }
 
     module _ (a : OneOf (1 ∷ 2 ∷ 3 ∷ 4 ∷ 5 ∷ 6 ∷ 7 ∷ []) (tag_of answers.the_type made.answer)) where
-      accepted : make_refusal (shape_at l) n ≡ none
+      accepted : make_refusal (shape_at l) n ≡ None
       accepted = making-done (make_refusal (shape_at l) n) made.answer g.makes.answer a
 
-      accepted-by : make_refusal (script_of l).shape (script_of l).lent ≡ none
+      accepted-by : make_refusal (script_of l).shape (script_of l).lent ≡ None
       unfolding script_of
       accepted-by = ap (make_refusal (shape_at l)) (sym g.lent) ∙ accepted
 

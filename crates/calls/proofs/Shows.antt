@@ -6,28 +6,13 @@ use native.Mathlib.Omega.{arith}
 use lib.ListN.{length, get_or, take, drop, get_or-append, get_or-map}
 use lib.Seq.{get_or-drop}
 use Rattle.model.specs.State.{State}
-use Rattle.model.specs.Calls.{
-  View,
-  status,
-  in_flight_before,
-  Call,
-  view,
-  Answer,
-  shown_number,
-  show,
-  first_of,
-  checks,
-  refusal,
-  reply,
-  answer,
-}
+use Rattle.model.specs.Calls.{View, status, in_flight_before, Call, view, Answer, show, first_of, checks, refusal, reply, answer}
 use Rattle.traces.specs.Texts.{Laid}
 use Rattle.decoding.specs.Bytes.{byte_at, number_at}
 use Rattle.decoding.specs.Calls.{plain_views, indexed_views, plain_view, indexed_view, call_at}
 use Rattle.answers.specs.Encode.{encode}
 use Rattle.answers.specs.Size.{size_of_view, size}
 use Rattle.answers.proofs.Laid.{laid_of}
-use Rattle.answers.proofs.Numbers.{number-length}
 use Rattle.answers.proofs.Sizes.{answer-fits}
 use Rattle.calls.specs.Play.{lent_of}
 use Rattle.calls.proofs.Which.{told, told_below}
@@ -54,10 +39,6 @@ view-answer s m v = refl
 pub shown-fits : (s : State) (v : View) {a : Answer} → a ≡ show s v → length (encode a) ≤ size_of_view v
 unfolding size
 shown-fits s v q = subst (λ t. length (encode t) ≤ size_of_view v) (view-answer s [] v ∙ sym q) (answer-fits s [] (view v))
-
-pub number_fits : (s : State) (v : View) {n : ℕ} → shown_number n ≡ show s v → 9 ≤ size_of_view v
-unfolding encode
-number_fits s v {n} q = omega (arith, shown-fits s v q, number-length n)
 
 -- ── The view that stands at a place ─────────────────────────────────────────
 

@@ -9,8 +9,7 @@ use Rattle.model.specs.Timeline.{splice}
 use Rattle.model.specs.State.{State}
 use Rattle.model.specs.Requests.{text_at}
 use Rattle.model.specs.Calls.{text, answer, buffer_after}
-use Rattle.traces.specs.declared.texts.Written.{Written}
-use Rattle.traces.specs.Texts.{Laid, written}
+use Rattle.traces.specs.Texts.{Laid, Written, written}
 use Rattle.timeline.proofs.Memory.{splice-parts}
 use Rattle.decoding.specs.Bytes.{byte_at}
 use Rattle.decoding.specs.Calls.{request_at, room_at, text_call, call_at}

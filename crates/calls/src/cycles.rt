@@ -4,7 +4,7 @@ ghost use Rattle.scoreboard.specs.View.{parts, view_engine};
 ghost use Rattle.scoreboard.specs.Valid.{Valid};
 ghost use Rattle.calls.specs.Steps.{PlayableFrom, Played, cycle_at};
 
-use crate::measures::answer_size;
+use crate::measures::{answer_size, blank};
 use advancing::advanced;
 use answers::replies::put_answer;
 use board::Sequencer;
@@ -27,20 +27,11 @@ pub struct Reached {
 }
 
 // Does one of them stand at a place?
+#[tactic(auto, unfolding(crate::specs::Steps::cycle_at, crate::specs::Steps::of_cycle, decoding::specs::Bytes::byte_at))]
 pub fn cycle_at(list: &[u8], at: usize) -> bool
     ensures { result ≡ cycle_at list.now at }
 {
-    if list.len() <= at {
-        return false;
-    }
-    let k = list[at];
-    if k < 2 {
-        return true;
-    }
-    if k == 5 {
-        return true;
-    }
-    k == 4
+    at < list.len() && matches!(list[at], 0 | 1 | 4 | 5)
 }
 
 // All of them from a place on, up to the first other call, or the first fetch with a name that is not held yet. The engine's parts are variables of
@@ -77,7 +68,7 @@ pub fn play_cycles(
     let names = table.names;
     let mut bs = [[0u8; 16]; 256];
     let mut ls = [0u8; 256];
-    lookup::spread(table, &mut bs, &mut ls);
+    lookup::spread(&table.names, &mut bs, &mut ls);
     let mut known = table.known;
     let mut held = table.held;
     let mut hs = [0u8; 1024];
@@ -87,6 +78,7 @@ pub fn play_cycles(
     let mut next = at;
     let mut end = b;
     let mut more = true;
+    // Kept: each turn passes a call of its own size.
     while more && cycle_at(list, next) {
         let here = next;
         let to = end;
@@ -94,17 +86,12 @@ pub fn play_cycles(
         let tag = list[here];
         if tag == 5 {
             let op = op_at(list, here + 1);
-            let looked = lookup::look(&bs, &ls, &hs, held, op);
-            more = looked.all;
-            if more {
-                timeline::cells::fill(out, to, size, 0);
+            let looked = lookup::look(&bs, &ls, &hs, held, &op);
+            if let Some(operands) = looked {
+                blank(out, to, size);
                 end += size;
                 next += size_of(tag);
                 let lent = number_at(list, here + 383) as usize;
-                let fixed = machine.instruction_bytes;
-                let class = op.class;
-                let sources = looked.sources;
-                let destinations = looked.destinations;
                 let r = taken(
                     board,
                     &us,
@@ -115,10 +102,9 @@ pub fn play_cycles(
                     window.next,
                     window.held,
                     window.history,
-                    sources,
-                    destinations,
-                    fixed,
-                    machine.latency(class),
+                    operands,
+                    machine.instruction_bytes,
+                    machine.latency(op.class),
                     op,
                     &mut cells[..lent],
                 );
@@ -127,17 +113,19 @@ pub fn play_cycles(
                 if r.no == 0 {
                     let place = r.place;
                     let s = window.slot(window.next);
-                    let t = Texts::of(op);
+                    let t = Texts::of(&op);
                     let x = row_of(op);
-                    let d = Decoded::of(op, board.fetch_pc);
+                    let d = Decoded::of(&op, board.fetch_pc);
                     texts.items[place] = t;
                     rows.items[s] = x;
                     decoded.items[place] = d;
-                    window = window.opened();
+                    window.open();
                 }
+            } else {
+                more = false;
             }
         } else {
-            timeline::cells::fill(out, to, size, 0);
+            blank(out, to, size);
             end += size;
             next += size_of(tag);
             match tag {

@@ -8,7 +8,7 @@ ghost use Rattle.decoding.specs.Calls.{call_at, formed_at};
 ghost use Rattle.calls.specs.Play.{lent_of, cells_after};
 
 use decoding::operation::op_at;
-use decoding::parts::{flag_at, maybe_number_at, number_at, text_at};
+use decoding::parts::{chars_at, flag_at, maybe_number_at, number_at};
 use scoreboard::{Next, ScoreboardPipeline};
 
 // 4
@@ -63,7 +63,7 @@ fn cycle(engine: ScoreboardPipeline, list: &[u8], at: usize) -> Next
     match list[at] {
         0 => engine.start_cycle(),
         1 => engine.retire(),
-        2 => engine.retry(text_at(list, at + 1)),
+        2 => engine.retry(chars_at(list, at + 1)),
         _ => engine.resolve(number_at(list, at + 1)),
     }
 }
@@ -84,7 +84,7 @@ fn control(engine: ScoreboardPipeline, list: &[u8], at: usize) -> Next
         }
         7 => engine.set_enabled(flag_at(list, at + 1)),
         8 => engine.halt(),
-        9 => engine.fault(text_at(list, at + 1)),
+        9 => engine.fault(chars_at(list, at + 1)),
         _ => engine.redirect(number_at(list, at + 1)),
     }
 }

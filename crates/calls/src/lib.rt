@@ -1,12 +1,13 @@
 // A list of calls as bytes (docs/CALLS.md): a machine is made, the calls are played on it, and every answer is written.
 #![tactic(auto)]
 
+use answers::parts::Put;
 use cycles::{cycle_at, play_cycles};
 use decoding::machine::shape_at;
 use decoding::parts::number_at;
 use decoding::records::{formed, size_of};
 use engine::Answer;
-use measures::{answer_size, lent_at};
+use measures::{answer_size, blank, lent_at};
 use scoreboard::ScoreboardPipeline;
 
 // How much room a call takes.
@@ -22,59 +23,28 @@ pub mod texts;
 // The answer to a call.
 pub mod one;
 
-ghost use Rattle.std.specs.Prelude.{◌≡◌, true, ◌∷◌, ◌++◌, ◌+◌, ◌≤◌, max, length};
-ghost use Rattle.std.proofs.Math.Option.{none, some};
+ghost use Rattle.std.specs.Prelude.{◌≡◌, true, ◌∷◌, ◌++◌, ◌+◌, ◌≤◌, length};
 ghost use Rattle.model.specs.Timeline.{splice};
 ghost use Rattle.scoreboard.specs.View.{view_engine};
 ghost use Rattle.scoreboard.specs.Valid.{Valid};
 ghost use Rattle.decoding.specs.Machine.{machine_formed};
 ghost use Rattle.decoding.specs.Script.{calls_at, all_formed, script_of, decode};
 ghost use Rattle.answers.specs.Bytes.{number_bytes};
-ghost use Rattle.calls.specs.Play.{
-  all_sizes,
-  blocks,
-  cells_played,
-  refused_blocks,
-  script_answers,
-  script_cells,
-  play_answer,
-  play_cells,
-  play_out,
-};
-ghost use Rattle.calls.specs.Tally.{tally_of};
+ghost use Rattle.calls.specs.Play.{all_sizes, blocks, cells_played, refused_blocks, script_answers, script_cells, play_answer, play_cells, play_out};
+ghost use Rattle.calls.specs.Tally.{tally, tally_of};
 ghost use Rattle.calls.specs.Steps.{AllPlayable};
 
-// What a pass over a list tells: is it of its form, how many calls it has, how many bytes its answers take in all, and the most bytes of cell
-// memory that it lends.
+// What a pass over a list of its form tells: how many calls it has, how many bytes its answers take in all, and the most bytes of cell memory that it
+// lends.
 #[derive(Clone, Copy)]
 pub struct Tally {
-    pub formed: bool,
     pub calls: u64,
     pub bytes: u64,
     pub lent: u64,
 }
 
-impl Tally {
-    fn none() -> Tally
-        ensures { result ≡ tally_of none }
-    {
-        Tally {
-            formed: false,
-            calls: 0,
-            bytes: 0,
-            lent: 0,
-        }
-    }
-}
-
-fn larger(a: u64, b: u64) -> u64
-    ensures { result ≡ max a b }
-{
-    if a < b { b } else { a }
-}
-
 // Of a list that is not too long and starts with a machine.
-fn scan_calls(list: &[u8]) -> Tally
+fn scan_calls(list: &[u8]) -> Option<Tally>
     requires list_len_bound { length list.now ≤ 16777216 }
     requires list_value { machine_formed list.now ≡ true }
     ensures { result ≡ tally_of (decode list.now) }
@@ -83,31 +53,24 @@ fn scan_calls(list: &[u8]) -> Tally
     let mut bytes: u64 = 17;
     let mut lent = number_at(list, 81);
     let mut at: usize = 555;
+    // Kept: each turn passes a call of its own size.
     while at < list.len() {
         if !formed(list, at) {
-            return Tally::none();
+            return None;
         }
         calls += 1;
         bytes += answer_size(list, at) as u64;
-        lent = larger(lent, lent_at(list, at));
+        lent = lent.max(lent_at(list, at));
         at += size_of(list[at]);
     }
-    Tally {
-        formed: true,
-        calls,
-        bytes,
-        lent,
-    }
+    Some(Tally { calls, bytes, lent })
 }
 
-fn scan(list: &[u8]) -> Tally
+fn scan(list: &[u8]) -> Option<Tally>
     ensures { result ≡ tally_of (decode list.now) }
 {
-    if 16777216 < list.len() {
-        return Tally::none();
-    }
-    if !decoding::form::machine_formed(list) {
-        return Tally::none();
+    if list.len() > 16777216 || !decoding::form::machine_formed(list) {
+        return None;
     }
     scan_calls(list)
 }
@@ -117,9 +80,9 @@ fn put_header(out: &mut [u8], no: u8, calls: u64, bytes: u64)
     requires { 17 ≤ length out.old }
     ensures { out.new ≡ splice 0 (no ∷ (number_bytes calls ++ number_bytes bytes)) out.old }
 {
-    let a = answers::parts::put_byte(out, 0, no);
-    let b = answers::parts::put_number(out, a, calls);
-    answers::parts::put_number(out, b, bytes);
+    let a = no.put(out, 0);
+    let b = calls.put(out, a);
+    bytes.put(out, b);
 }
 
 // Where making was refused: each call answers its number.
@@ -130,9 +93,10 @@ fn refuse_calls(list: &[u8], out: &mut [u8], no: u8)
 {
     let mut at: usize = 555;
     let mut b: usize = 17;
+    // Kept: each turn passes a call of its own size.
     while at < list.len() {
         let n = answer_size(list, at);
-        timeline::cells::fill(out, b, n, 0);
+        blank(out, b, n);
         out[b] = no;
         b += n;
         at += size_of(list[at]);
@@ -150,6 +114,7 @@ fn play_calls(engine: ScoreboardPipeline, list: &[u8], cells: &mut [u8], out: &m
     let mut e = engine;
     let mut at: usize = 555;
     let mut b: usize = 17;
+    // Kept: each turn passes calls of their own size.
     while at < list.len() {
         if cycle_at(list, at) {
             let r = play_cycles(e, list, at, cells, out, b);
@@ -159,11 +124,11 @@ fn play_calls(engine: ScoreboardPipeline, list: &[u8], cells: &mut [u8], out: &m
         }
         if at < list.len() {
             let n = answer_size(list, at);
-            timeline::cells::fill(out, b, n, 0);
+            blank(out, b, n);
             if list[at] < 12 {
                 e = one::play_driven(e, list, at, cells, out, b);
             } else {
-                one::play_shown(e, list, at, cells, out, b);
+                one::play_shown(&e, list, at, cells, out, b);
             }
             b += n;
             at += size_of(list[at]);
@@ -173,8 +138,8 @@ fn play_calls(engine: ScoreboardPipeline, list: &[u8], cells: &mut [u8], out: &m
 
 // A list of its form, with all the room that it takes.
 fn play_script(list: &[u8], cells: &mut [u8], out: &mut [u8], t: Tally)
-    requires list_value { decode list.now ≡ some (script_of list.now) }
-    requires t_value { t ≡ tally_of (some (script_of list.now)) }
+    requires list_value { decode list.now ≡ Some (script_of list.now) }
+    requires t_value { t ≡ tally (script_of list.now) }
     requires lent_in_bounds { t.lent ≤ length cells.old }
     requires bytes_in_bounds { t.bytes ≤ length out.old }
     ensures memory { cells.new ≡ script_cells (script_of list.now) cells.old }
@@ -184,8 +149,7 @@ fn play_script(list: &[u8], cells: &mut [u8], out: &mut [u8], t: Tally)
     let entry = number_at(list, 65);
     let n = number_at(list, 81) as usize;
     let made = ScoreboardPipeline::new(shape, entry, &mut cells[..n]);
-    let answer = made.answer;
-    match answer {
+    match made.answer {
         Answer::Refused(no) => {
             put_header(out, no, t.calls, t.bytes);
             refuse_calls(list, out, no);
@@ -204,14 +168,10 @@ pub extern "C" fn calls_play(list: &[u8], cells: &mut [u8], out: &mut [u8]) -> u
     ensures memory { cells.new ≡ play_cells list.now cells.old out.old }
     ensures answers { out.new ≡ play_out list.now cells.old out.old }
 {
-    let t = scan(list);
-    if !t.formed {
+    let Some(t) = scan(list) else {
         return 14;
-    }
-    if (cells.len() as u64) < t.lent {
-        return 13;
-    }
-    if (out.len() as u64) < t.bytes {
+    };
+    if (cells.len() as u64) < t.lent || (out.len() as u64) < t.bytes {
         return 13;
     }
     play_script(list, cells, out, t);

@@ -1,5 +1,6 @@
 // How much room a call takes: the bytes of its answer, and the cell memory that it is lent.
-ghost use Rattle.std.specs.Prelude.{◌≡◌, true};
+ghost use Rattle.std.specs.Prelude.{◌≡◌, true, ◌+◌, ◌≤◌, length, replicate};
+ghost use Rattle.model.specs.Timeline.{splice};
 ghost use Rattle.decoding.specs.Calls.{call_at, formed_at};
 ghost use Rattle.answers.specs.Size.{size};
 ghost use Rattle.calls.specs.Play.{lent_of};
@@ -22,6 +23,14 @@ pub fn answer_size(list: &[u8], at: usize) -> usize
         return ANSWERS[n];
     }
     10 + room_at(list, at) as usize
+}
+
+// As many bytes of 0 from a place on: what an answer is laid over.
+pub fn blank(out: &mut [u8], b: usize, n: usize)
+    requires { b + n ≤ length out.old }
+    ensures { out.new ≡ splice b (replicate n 0) out.old }
+{
+    out[b..b + n].fill(0);
 }
 
 pub fn lent_at(list: &[u8], at: usize) -> u64

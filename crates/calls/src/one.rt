@@ -33,24 +33,23 @@ pub fn play_driven(
     ensures answer { out.new ≡ splice b (encode (answer (view_engine engine) (take (lent_of (call_at list.now at)) cells.old) (call_at list.now at))) out.old }
 {
     let next = drive(engine, list, at, cells);
-    let answer = next.answer;
-    put_answer(out, b, answer);
+    put_answer(out, b, next.answer);
     next.engine
 }
 
 // 12 to 48: the engine and the cell memory stay.
 pub fn play_shown(
-    engine: ScoreboardPipeline,
+    engine: &ScoreboardPipeline,
     list: &[u8],
     at: usize,
     cells: &[u8],
     out: &mut [u8],
     b: usize,
 )
-    requires valid { Valid engine }
+    requires valid { Valid engine.now }
     requires playable { Playable list.now at cells.now b out.old }
     requires bound { 12 ≤ byte_at list.now at }
-    ensures { out.new ≡ splice b (encode (answer (view_engine engine) (take (lent_of (call_at list.now at)) cells.now) (call_at list.now at))) out.old }
+    ensures { out.new ≡ splice b (encode (answer (view_engine engine.now) (take (lent_of (call_at list.now at)) cells.now) (call_at list.now at))) out.old }
 {
     if list[at] < 39 {
         show(engine, list, at, cells, out, b);

@@ -1,4 +1,6 @@
 // The views: calls 12 to 38. Each lays down its answer from a place on and hands back the next place.
+#![tactic(auto, unfolding(model::specs::Calls::show, decoding::specs::Calls::plain_view, decoding::specs::Calls::indexed_view, answers::specs::Size::size_of_view))]
+
 ghost use Rattle.std.specs.Prelude.{◌≡◌, true, ◌+◌, ◌≤◌, ◌<◌, length, take};
 ghost use Rattle.model.specs.Calls.{shown_number, show, answer};
 ghost use Rattle.traces.specs.Texts.{Laid};
@@ -11,20 +13,20 @@ ghost use Rattle.answers.specs.Size.{size_of_view};
 ghost use Rattle.calls.specs.Play.{lent_of};
 ghost use Rattle.calls.specs.Steps.{Playable};
 
-use answers::operations::{put_kind_answer, put_slot_answer, put_stage_answer, put_station_answer};
+use answers::parts::put_shown;
 use answers::shown::{
-    put_cell_answer, put_claim_answer, put_edges, put_flag_answer, put_number_answer,
-    put_row_answer, put_stages, put_stats, put_status, put_wait_answer,
+    put_cell_answer, put_edges, put_flag_answer, put_number_answer, put_stages, put_stats,
+    put_status,
 };
 use decoding::parts::number_at;
 use scoreboard::ScoreboardPipeline;
 
 // 15 to 17: addresses, and how many stages.
-fn address_or_stages(engine: ScoreboardPipeline, tag: u8) -> u64
-    requires valid { Valid engine }
+fn address_or_stages(engine: &ScoreboardPipeline, tag: u8) -> u64
+    requires valid { Valid engine.now }
     requires le_tag { 15 ≤ tag }
     requires tag_bound { tag < 18 }
-    ensures { shown_number result ≡ show (view_engine engine) (plain_view tag) }
+    ensures { shown_number result ≡ show (view_engine engine.now) (plain_view tag) }
 {
     match tag {
         15 => views::questions::fetch_pc(engine),
@@ -34,11 +36,11 @@ fn address_or_stages(engine: ScoreboardPipeline, tag: u8) -> u64
 }
 
 // 21 to 24.
-fn count_units(engine: ScoreboardPipeline, tag: u8) -> usize
-    requires valid { Valid engine }
+fn count_units(engine: &ScoreboardPipeline, tag: u8) -> usize
+    requires valid { Valid engine.now }
     requires le_tag { 21 ≤ tag }
     requires tag_bound { tag < 25 }
-    ensures { shown_number result ≡ show (view_engine engine) (plain_view tag) }
+    ensures { shown_number result ≡ show (view_engine engine.now) (plain_view tag) }
 {
     match tag {
         21 => views::kinds::unit_count(engine),
@@ -49,11 +51,11 @@ fn count_units(engine: ScoreboardPipeline, tag: u8) -> usize
 }
 
 // 25 to 28.
-fn count_waiting(engine: ScoreboardPipeline, tag: u8) -> usize
-    requires valid { Valid engine }
+fn count_waiting(engine: &ScoreboardPipeline, tag: u8) -> usize
+    requires valid { Valid engine.now }
     requires le_tag { 25 ≤ tag }
     requires tag_bound { tag < 29 }
-    ensures { shown_number result ≡ show (view_engine engine) (plain_view tag) }
+    ensures { shown_number result ≡ show (view_engine engine.now) (plain_view tag) }
 {
     match tag {
         25 => views::claims::rename_count(engine),
@@ -64,12 +66,12 @@ fn count_waiting(engine: ScoreboardPipeline, tag: u8) -> usize
 }
 
 // 15 to 17 and 21 to 28.
-fn number_of(engine: ScoreboardPipeline, tag: u8) -> u64
-    requires valid { Valid engine }
+fn number_of(engine: &ScoreboardPipeline, tag: u8) -> u64
+    requires valid { Valid engine.now }
     requires le_tag { 15 ≤ tag }
     requires tag_bound { tag < 29 }
     requires le_tag_2 { 18 ≤ tag → 21 ≤ tag }
-    ensures { shown_number result ≡ show (view_engine engine) (plain_view tag) }
+    ensures { shown_number result ≡ show (view_engine engine.now) (plain_view tag) }
 {
     if tag < 18 {
         return address_or_stages(engine, tag);
@@ -81,31 +83,26 @@ fn number_of(engine: ScoreboardPipeline, tag: u8) -> u64
 }
 
 // 18 to 20: lists that are the same of every engine.
-fn show_list(engine: ScoreboardPipeline, tag: u8, out: &mut [u8], b: usize) -> usize
+fn show_list(engine: &ScoreboardPipeline, tag: u8, out: &mut [u8], b: usize) -> usize
     requires le_tag { 18 ≤ tag }
     requires tag_bound { tag < 21 }
     requires tag_in_bounds { b + size_of_view (plain_view tag) ≤ length out.old }
-    ensures { Laid b (encode (show (view_engine engine) (plain_view tag))) out.old out.new result }
+    ensures { Laid b (encode (show (view_engine engine.now) (plain_view tag))) out.old out.new result }
 {
-    if tag == 18 {
-        let edges = views::stages::edges();
-        return put_edges(out, b, edges);
+    match tag {
+        18 => put_edges(out, b, views::stages::edges()),
+        19 => put_stages(out, b, &views::stages::entry_stages()),
+        _ => put_stages(out, b, &views::stages::stage_order()),
     }
-    if tag == 19 {
-        let first = views::stages::entry_stages();
-        return put_stages(out, b, &first);
-    }
-    let order = views::stages::stage_order();
-    put_stages(out, b, &order)
 }
 
 // 12 to 28: views without an index.
-fn show_plain(engine: ScoreboardPipeline, tag: u8, out: &mut [u8], b: usize) -> usize
-    requires valid { Valid engine }
+fn show_plain(engine: &ScoreboardPipeline, tag: u8, out: &mut [u8], b: usize) -> usize
+    requires valid { Valid engine.now }
     requires le_tag { 12 ≤ tag }
     requires tag_bound { tag < 29 }
     requires tag_in_bounds { b + size_of_view (plain_view tag) ≤ length out.old }
-    ensures { Laid b (encode (show (view_engine engine) (plain_view tag))) out.old out.new result }
+    ensures { Laid b (encode (show (view_engine engine.now) (plain_view tag))) out.old out.new result }
 {
     match tag {
         12 => put_status(out, b, views::status(engine)),
@@ -117,55 +114,55 @@ fn show_plain(engine: ScoreboardPipeline, tag: u8, out: &mut [u8], b: usize) -> 
 }
 
 // 29 to 33.
-fn show_indexed(engine: ScoreboardPipeline, tag: u8, index: u64, out: &mut [u8], b: usize) -> usize
-    requires valid { Valid engine }
+fn show_indexed(engine: &ScoreboardPipeline, tag: u8, index: u64, out: &mut [u8], b: usize) -> usize
+    requires valid { Valid engine.now }
     requires le_tag { 29 ≤ tag }
     requires tag_bound { tag < 34 }
     requires index_in_bounds { b + size_of_view (indexed_view tag index) ≤ length out.old }
-    ensures { Laid b (encode (show (view_engine engine) (indexed_view tag index))) out.old out.new result }
+    ensures { Laid b (encode (show (view_engine engine.now) (indexed_view tag index))) out.old out.new result }
 {
     let i = index as usize;
     match tag {
         29 => put_flag_answer(out, b, views::questions::in_flight_before(engine, index)),
-        30 => put_stage_answer(out, b, views::stages::stage(engine, i)),
-        31 => put_kind_answer(out, b, views::kinds::unit(engine, i)),
-        32 => put_wait_answer(out, b, views::waits::trace(engine, i)),
-        _ => put_row_answer(out, b, views::history::timeline_row(engine, i)),
+        30 => put_shown(out, b, views::stages::stage(engine, i)),
+        31 => put_shown(out, b, views::kinds::unit(engine, i)),
+        32 => put_shown(out, b, views::waits::trace(engine, i)),
+        _ => put_shown(out, b, views::history::timeline_row(engine, i)),
     }
 }
 
 // 34 to 37.
-fn show_held(engine: ScoreboardPipeline, tag: u8, index: u64, out: &mut [u8], b: usize) -> usize
-    requires valid { Valid engine }
+fn show_held(engine: &ScoreboardPipeline, tag: u8, index: u64, out: &mut [u8], b: usize) -> usize
+    requires valid { Valid engine.now }
     requires le_tag { 34 ≤ tag }
     requires tag_bound { tag < 38 }
     requires index_in_bounds { b + size_of_view (indexed_view tag index) ≤ length out.old }
-    ensures { Laid b (encode (show (view_engine engine) (indexed_view tag index))) out.old out.new result }
+    ensures { Laid b (encode (show (view_engine engine.now) (indexed_view tag index))) out.old out.new result }
 {
     let i = index as usize;
     match tag {
-        34 => put_station_answer(out, b, views::stations::station(engine, i)),
-        35 => put_claim_answer(out, b, views::claims::rename(engine, i)),
-        36 => put_slot_answer(out, b, views::claims::queued(engine, i)),
-        _ => put_slot_answer(out, b, views::claims::buffer_entry(i)),
+        34 => put_shown(out, b, views::stations::station(engine, i)),
+        35 => put_shown(out, b, views::claims::rename(engine, i)),
+        36 => put_shown(out, b, views::claims::queued(engine, i)),
+        _ => put_shown(out, b, views::claims::buffer_entry(i)),
     }
 }
 
 // 38, from the cell memory that it is lent.
 fn show_cell(
-    engine: ScoreboardPipeline,
+    engine: &ScoreboardPipeline,
     list: &[u8],
     at: usize,
     cells: &[u8],
     out: &mut [u8],
     b: usize,
 ) -> usize
-    requires valid { Valid engine }
+    requires valid { Valid engine.now }
     requires at_value { formed_at list.now at ≡ true }
     requires at_in_bounds { lent_of (call_at list.now at) ≤ length cells.now }
     requires at_value_2 { byte_at list.now at ≡ 38 }
     requires b_in_bounds { b + 5 ≤ length out.old }
-    ensures { Laid b (encode (answer (view_engine engine) (take (lent_of (call_at list.now at)) cells.now) (call_at list.now at))) out.old out.new result }
+    ensures { Laid b (encode (answer (view_engine engine.now) (take (lent_of (call_at list.now at)) cells.now) (call_at list.now at))) out.old out.new result }
 {
     let row = number_at(list, at + 1) as usize;
     let index = number_at(list, at + 9) as usize;
@@ -176,18 +173,18 @@ fn show_cell(
 
 // Any of them.
 pub fn show(
-    engine: ScoreboardPipeline,
+    engine: &ScoreboardPipeline,
     list: &[u8],
     at: usize,
     cells: &[u8],
     out: &mut [u8],
     b: usize,
 ) -> usize
-    requires valid { Valid engine }
+    requires valid { Valid engine.now }
     requires playable { Playable list.now at cells.now b out.old }
     requires bound { 12 ≤ byte_at list.now at }
     requires at_bound { byte_at list.now at < 39 }
-    ensures { Laid b (encode (answer (view_engine engine) (take (lent_of (call_at list.now at)) cells.now) (call_at list.now at))) out.old out.new result }
+    ensures { Laid b (encode (answer (view_engine engine.now) (take (lent_of (call_at list.now at)) cells.now) (call_at list.now at))) out.old out.new result }
 {
     let tag = list[at];
     if tag < 29 {

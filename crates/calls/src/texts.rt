@@ -13,12 +13,13 @@ ghost use Rattle.answers.specs.Encode.{encode};
 ghost use Rattle.answers.specs.Size.{size};
 
 use answers::replies::put_written;
+use capability::Refusal;
 use decoding::parts::number_at;
 use decoding::records::room_at;
 use requests::{Field, Place};
 use scoreboard::ScoreboardPipeline;
-use traces::texts::Written;
 
+#[tactic(auto, unfolding(requests::specs::View::view_place, decoding::specs::Bytes::byte_at, decoding::specs::Calls::place_at))]
 fn place_at(list: &[u8], at: usize) -> Place
     requires { at + 9 ≤ length list.now }
     ensures { view_place result ≡ place_at list.now at }
@@ -33,6 +34,7 @@ fn place_at(list: &[u8], at: usize) -> Place
     }
 }
 
+#[tactic(auto, unfolding(requests::specs::View::view_field, decoding::specs::Bytes::byte_at, decoding::specs::Calls::field_at))]
 fn field_at(list: &[u8], at: usize) -> Field
     requires { at + 9 ≤ length list.now }
     ensures { view_field result ≡ field_at list.now at }
@@ -48,13 +50,19 @@ fn field_at(list: &[u8], at: usize) -> Field
 }
 
 // 39 to 43.
-fn ask_shown(engine: ScoreboardPipeline, list: &[u8], at: usize, out: &mut [u8]) -> Written
-    requires valid { Valid engine }
+#[tactic(auto, unfolding(model::specs::Requests::text_at, decoding::specs::Bytes::byte_at, decoding::specs::Calls::request_at))]
+fn ask_shown(
+    engine: &ScoreboardPipeline,
+    list: &[u8],
+    at: usize,
+    out: &mut [u8],
+) -> Result<Option<usize>, Refusal>
+    requires valid { Valid engine.now }
     requires at_value { formed_at list.now at ≡ true }
     requires bound { 39 ≤ byte_at list.now at }
     requires at_bound { byte_at list.now at < 44 }
-    ensures answer { result ≡ written (length out.old) (text_at (view_engine engine) (request_at list.now at)) }
-    ensures buffer { out.new ≡ buffer_after (view_engine engine) (request_at list.now at) out.old }
+    ensures answer { result ≡ written (length out.old) (text_at (view_engine engine.now) (request_at list.now at)) }
+    ensures buffer { out.new ≡ buffer_after (view_engine engine.now) (request_at list.now at) out.old }
 {
     let i = number_at(list, at + 1) as usize;
     match list[at] {
@@ -71,12 +79,18 @@ fn ask_shown(engine: ScoreboardPipeline, list: &[u8], at: usize, out: &mut [u8])
 }
 
 // 44 to 48.
-fn ask_named(engine: ScoreboardPipeline, list: &[u8], at: usize, out: &mut [u8]) -> Written
-    requires valid { Valid engine }
+#[tactic(auto, unfolding(model::specs::Requests::text_at, decoding::specs::Bytes::byte_at, decoding::specs::Calls::request_at))]
+fn ask_named(
+    engine: &ScoreboardPipeline,
+    list: &[u8],
+    at: usize,
+    out: &mut [u8],
+) -> Result<Option<usize>, Refusal>
+    requires valid { Valid engine.now }
     requires at_value { formed_at list.now at ≡ true }
     requires bound { 44 ≤ byte_at list.now at }
-    ensures answer { result ≡ written (length out.old) (text_at (view_engine engine) (request_at list.now at)) }
-    ensures buffer { out.new ≡ buffer_after (view_engine engine) (request_at list.now at) out.old }
+    ensures answer { result ≡ written (length out.old) (text_at (view_engine engine.now) (request_at list.now at)) }
+    ensures buffer { out.new ≡ buffer_after (view_engine engine.now) (request_at list.now at) out.old }
 {
     let i = number_at(list, at + 1) as usize;
     match list[at] {
@@ -91,12 +105,17 @@ fn ask_named(engine: ScoreboardPipeline, list: &[u8], at: usize, out: &mut [u8])
     }
 }
 
-fn ask(engine: ScoreboardPipeline, list: &[u8], at: usize, out: &mut [u8]) -> Written
-    requires valid { Valid engine }
+fn ask(
+    engine: &ScoreboardPipeline,
+    list: &[u8],
+    at: usize,
+    out: &mut [u8],
+) -> Result<Option<usize>, Refusal>
+    requires valid { Valid engine.now }
     requires at_value { formed_at list.now at ≡ true }
     requires bound { 39 ≤ byte_at list.now at }
-    ensures answer { result ≡ written (length out.old) (text_at (view_engine engine) (request_at list.now at)) }
-    ensures buffer { out.new ≡ buffer_after (view_engine engine) (request_at list.now at) out.old }
+    ensures answer { result ≡ written (length out.old) (text_at (view_engine engine.now) (request_at list.now at)) }
+    ensures buffer { out.new ≡ buffer_after (view_engine engine.now) (request_at list.now at) out.old }
 {
     if list[at] < 44 {
         return ask_shown(engine, list, at, out);
@@ -105,12 +124,12 @@ fn ask(engine: ScoreboardPipeline, list: &[u8], at: usize, out: &mut [u8]) -> Wr
 }
 
 // The text is written to its room; then what stands before it.
-pub fn tell(engine: ScoreboardPipeline, list: &[u8], at: usize, out: &mut [u8], b: usize)
-    requires valid { Valid engine }
+pub fn tell(engine: &ScoreboardPipeline, list: &[u8], at: usize, out: &mut [u8], b: usize)
+    requires valid { Valid engine.now }
     requires at_value { formed_at list.now at ≡ true }
     requires bound { 39 ≤ byte_at list.now at }
     requires at_in_bounds { b + size (call_at list.now at) ≤ length out.old }
-    ensures { (m : List ℕ) → out.new ≡ splice b (encode (answer (view_engine engine) m (call_at list.now at))) out.old }
+    ensures { (m : List ℕ) → out.new ≡ splice b (encode (answer (view_engine engine.now) m (call_at list.now at))) out.old }
 {
     let n = room_at(list, at) as usize;
     let from = b + 10;

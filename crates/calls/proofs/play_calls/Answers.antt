@@ -7,19 +7,7 @@ use Rattle.decoding.specs.Calls.{size_at, call_at}
 use Rattle.decoding.proofs.Script.{formed-is}
 use Rattle.calls.specs.Steps.{Leaves, Played}
 use Rattle.calls.proofs.Lays.{laying-formed, laying-sizes}
-use Rattle.calls.proofs.Plays.{
-  shown-from,
-  Step,
-  step-shown,
-  played-first,
-  played-playable,
-  played-next,
-  played-cells,
-  played-out,
-  played-rest,
-  played-on,
-  played-same,
-}
+use Rattle.calls.proofs.Plays.{shown-from, Step, step-shown, played-first, played-playable, played-next, played-cells, played-out, played-rest, played-on, played-same}
 use Rattle.calls.proofs.play_calls.Goals as goal
 use Rattle.calls.proofs.play_calls.Goals.{then-cycle_at, else-cycle_at, then-list-at-lt12, else-list-at-lt12}
 
@@ -45,8 +33,8 @@ answer_size-n-requires c =
     ] in
     laying-formed y.laid c.if-at-list.true
 
-pub fill-requires : goal.fill-requires
-fill-requires c =
+pub blank-requires : goal.blank-requires
+blank-requires c =
     let y
     : Played c.args.list.now 555 17 (view_engine c.args.engine) c.args.cells.now c.args.out.now (parts c.if-cycle_at.e) c.if-cycle_at.at
     c.if-cycle_at.b c.if-cycle_at.cells c.if-cycle_at.out =
@@ -70,7 +58,7 @@ play_driven-e-requires c =
     ] in
     record {
       valid = y.valid;
-      playable = played-playable y c.if-at-list.true c.answer_size-n.ensures c.fill.ensures;
+      playable = played-playable y c.if-at-list.true c.answer_size-n.ensures c.blank.ensures;
       at_bound = c.if-list-at-lt12.true;
     }
 
@@ -87,7 +75,7 @@ play_shown-requires c =
     ] in
     record {
       valid = y.valid;
-      playable = played-playable y c.if-at-list.true c.answer_size-n.ensures c.fill.ensures;
+      playable = played-playable y c.if-at-list.true c.answer_size-n.ensures c.blank.ensures;
       bound = c.if-list-at-lt12.false;
     }
 
@@ -144,7 +132,7 @@ loop-at-preserved-then-at-list c =
       | else-cycle_at w ↦ played-same c.loop-at.invariant w.cells-is w.out-is (ap parts w.e-is) w.at-is w.b-is
     ] in
     let s
-    : Step (call_at c.args.list.now c.if-cycle_at.at) c.if-cycle_at.b (parts c.if-cycle_at.e) c.if-cycle_at.cells c.fill.new.cells
+    : Step (call_at c.args.list.now c.if-cycle_at.at) c.if-cycle_at.b (parts c.if-cycle_at.e) c.if-cycle_at.cells c.blank.new.out
     (parts c.if-list-at-lt12.e) c.if-list-at-lt12.cells c.if-list-at-lt12.out =
     elim c.if-list-at-lt12.branch [
       | then-list-at-lt12 w ↦
@@ -156,7 +144,7 @@ loop-at-preserved-then-at-list c =
       | else-list-at-lt12 w ↦
           step-shown (shown-from _ _ w.if-list-at-lt12.false) y.valid (ap parts w.e-is) w.cells-is (w.out-is ∙ w.play_shown.ensures)
     ] in
-    played-next y c.if-at-list.true c.answer_size-n.ensures c.fill.ensures c.size_of-at.ensures s
+    played-next y c.if-at-list.true c.answer_size-n.ensures c.blank.ensures c.size_of-at.ensures s
 
 -- ── The last ones were calls of a cycle ─────────────────────────────────────
 

@@ -9,11 +9,11 @@ use Rattle.calls.proofs.refuse_calls.Goals as goal
 pub answer_size-n-requires : goal.answer_size-n-requires
 answer_size-n-requires c = laying-formed c.loop-at.invariant c.loop-at-test.true
 
-pub fill-requires : goal.fill-requires
-fill-requires c = omega (arith, c.answer_size-n.ensures, laying-sizes c.loop-at.invariant c.loop-at-test.true)
+pub blank-requires : goal.blank-requires
+blank-requires c = omega (arith, c.answer_size-n.ensures, laying-sizes c.loop-at.invariant c.loop-at-test.true)
 
 pub bounds-out-b : goal.bounds-out-b
-bounds-out-b c = laying-there c.loop-at.invariant c.loop-at-test.true c.answer_size-n.result c.fill.ensures
+bounds-out-b c = laying-there c.loop-at.invariant c.loop-at-test.true c.answer_size-n.result c.blank.ensures
 
 pub overflow_add-b : goal.overflow_add-b
 overflow_add-b c = omega (arith, c.answer_size-n.ensures, laying-sizes c.loop-at.invariant c.loop-at-test.true, c.loop-at.invariant.same)
@@ -29,7 +29,7 @@ loop-at-smaller c = let f = formed-is _ _ (laying-formed c.loop-at.invariant c.l
 
 pub loop-at-preserved : goal.loop-at-preserved
 unfolding size_at byte_at
-loop-at-preserved c = refusing-next _ c.loop-at.invariant c.loop-at-test.true c.answer_size-n.ensures c.size_of-at.ensures c.fill.ensures
+loop-at-preserved c = refusing-next _ c.loop-at.invariant c.loop-at-test.true c.answer_size-n.ensures c.size_of-at.ensures c.blank.ensures
 
 pub returns : goal.returns
 returns c = refusing-last _ c.loop-at.invariant c.loop-at-test.false

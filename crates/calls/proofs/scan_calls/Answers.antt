@@ -21,7 +21,7 @@ loop-at-init c = scanned-first _ (machine-there _ c.requires.list_value) c.numbe
 pub returns-then-not-formed : goal.returns-then-not-formed
 returns-then-not-formed c =
     let bad = sym c.formed.ensures ∙ not-true _ (ap not c.if-not-formed.true) in
-    c.none.ensures ∙ decode-none _ (scanned-bad c.loop-at.invariant c.loop-at-test.true bad)
+    decode-none _ (scanned-bad c.loop-at.invariant c.loop-at-test.true bad)
 
 pub overflow_add-bytes : goal.overflow_add-bytes
 overflow_add-bytes c =
@@ -45,7 +45,7 @@ pub loop-at-preserved : goal.loop-at-preserved
 unfolding size_at byte_at
 loop-at-preserved c =
     let good = sym c.formed.ensures ∙ not-false _ (ap not c.if-not-formed.false) in
-    scanned-next c.loop-at.invariant c.loop-at-test.true good c.answer_size.ensures c.lent_at.ensures c.larger-lent.ensures c.size_of-at.ensures
+    scanned-next c.loop-at.invariant c.loop-at-test.true good c.answer_size.ensures c.lent_at.ensures (omega arith) c.size_of-at.ensures
 
 pub returns : goal.returns
 returns c = scanned-last c.loop-at.invariant c.requires.list_len_bound c.requires.list_value c.loop-at-test.false

@@ -1,9 +1,8 @@
 -- 0, and the number.
 use Rattle.traces.proofs.Written.{laid_next}
 use Rattle.answers.specs.Encode.{encode}
-use borrow.Author.Rules.{rules}
 use Rattle.answers.proofs.shown.put_number_answer.Goals as goal
 
 pub returns : goal.returns
 unfolding encode
-returns c = laid_next c.put_byte-next.ensures c.put_number.ensures
+returns c = laid_next c.put-next.ensures c.put.ensures.laid

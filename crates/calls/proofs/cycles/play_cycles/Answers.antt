@@ -1,7 +1,7 @@
 use Prim.Native.Nat.{ℕ, ◌+◌, ◌≤◌, ◌<◌}
 use mathlib.Core.Path.{◌≡◌, refl, sym, subst, ap, ap₂, ◌∙◌}
 use mathlib.Core.Bool.{Bool, true}
-use mathlib.Core.Option.{Option}
+use Rattle.std.specs.Prelude.{Option, Some}
 use mathlib.Core.List.{List, ◌++◌}
 use native.Mathlib.Omega.{arith}
 use lib.ListN.{length, get_or, take, drop, replicate}
@@ -14,7 +14,7 @@ use Rattle.op.specs.declared.PipelineOp.{PipelineOp}
 use Rattle.op.specs.View.{view_op}
 use Rattle.config.specs.View.{view_machine}
 use Rattle.runs.proofs.Names.{Distinct}
-use Rattle.lookup.specs.declared.Looked.{Looked}
+use Rattle.registers.specs.declared.Operands.{Operands}
 use Rattle.lookup.specs.Lookup.{NamesHeld, LookedTo}
 use Rattle.lookup.proofs.Looking.{table-names, hints-size}
 use Rattle.slots.specs.View.{units_of, Holds as UnitsHeld}
@@ -42,23 +42,7 @@ use Rattle.calls.proofs.Which.{inside-by, lent_by, cycle-there, cycle-advance}
 use Rattle.calls.proofs.Drives.{none-at, lent_at}
 use Rattle.calls.proofs.Lays.{laying-formed, laying-sizes}
 use Rattle.calls.proofs.Plays.{number-room}
-use Rattle.calls.proofs.Cycling.{
-  with-both,
-  both_is,
-  Cycling,
-  cycling-first,
-  cycling-last,
-  Done,
-  Turn,
-  turn-playable,
-  turn-valid,
-  turn_byte,
-  turn-room,
-  turn-done,
-  turns,
-  turns_next,
-  turns-stop,
-}
+use Rattle.calls.proofs.Cycling.{with-both, both_is, Cycling, cycling-first, cycling-last, Done, Turn, turn-playable, turn-valid, turn_byte, turn-room, turn-done, turns, turns_next, turns-stop}
 use Rattle.calls.proofs.cycles.play_cycles.Goals as goal
 
 -- ── Before the loop ─────────────────────────────────────────────────────────
@@ -144,13 +128,13 @@ module _ {l m₀ out₀ m out filled : List ℕ} {at₀ b₀ at b n k : ℕ} {s�
     advanced p y z = lent_at l at h (ap₂ advance p (length-take-le j m advance-lent ∙ q)) m advance-lent refl (y, z)
 
 -- The numbers that were looked up are the operation's.
-module _ {e : Engine} (v : Valid e) {bs : List (List ℕ)} {ls : List ℕ} (names : NamesHeld bs ls e.table.names) {o : PipelineOp} {r : Looked}
-    (f : LookedTo bs ls e.table.held o r) (all : r.all ≡ true) {cycles : ℕ} (s : cycles ≡ latency (view_machine e.machine).times o.class) where
-  fetch-holds : Holds (given e.board e.window e.tracks r.sources r.destinations e.machine.instruction_bytes cycles o) e e.table
-  fetch-holds = holding v refl s (λ good few. f e.table v.parts.table names.is refl all good few)
+module _ {e : Engine} (v : Valid e) {bs : List (List ℕ)} {ls : List ℕ} (names : NamesHeld bs ls e.table.names) {o : PipelineOp} {r : Option Operands}
+    (f : LookedTo bs ls e.table.held o r) {x : Operands} (all : r ≡ Some x) {cycles : ℕ} (s : cycles ≡ latency (view_machine e.machine).times o.class) where
+  fetch-holds : Holds (given e.board e.window e.tracks x e.machine.instruction_bytes cycles o) e e.table
+  fetch-holds = holding v refl s (λ good few. f e.table x v.parts.table names.is refl all good few)
 
-  fetch-takable : Takable (given e.board e.window e.tracks r.sources r.destinations e.machine.instruction_bytes cycles o)
-  fetch-takable = takable v refl s (λ good few. f e.table v.parts.table names.is refl all good few)
+  fetch-takable : Takable (given e.board e.window e.tracks x e.machine.instruction_bytes cycles o)
+  fetch-takable = takable v refl s (λ good few. f e.table x v.parts.table names.is refl all good few)
 
 pub answer_size-size-requires : goal.answer_size-size-requires
 answer_size-size-requires c = is-formed c.loop-more.invariant.0 c.cycle_at.ensures c.if-cycle_at.true
@@ -177,8 +161,8 @@ look-looked-requires c =
       distinct = subst Distinct (sym (table-names _ _ (engine-of i.0.played.valid).table i.1.names.is refl)) ok.distinct;
     }
 
-pub fill-requires : goal.fill-requires
-fill-requires c = fits c.loop-more.invariant.0 c.cycle_at.ensures c.if-cycle_at.true c.answer_size-size.ensures
+pub blank-requires : goal.blank-requires
+blank-requires c = fits c.loop-more.invariant.0 c.cycle_at.ensures c.if-cycle_at.true c.answer_size-size.ensures
 
 pub overflow_add-end : goal.overflow_add-end
 overflow_add-end c =
@@ -188,20 +172,20 @@ overflow_add-end c =
 pub overflow_add-next : goal.overflow_add-next
 overflow_add-next c = omega (arith, next-inside c.loop-more.invariant.0 c.cycle_at.ensures c.if-cycle_at.true c.size_of-next.ensures)
 
-pub overflow_add-here-then-more : goal.overflow_add-here-then-more
-overflow_add-here-then-more c = omega (arith, inside c.loop-more.invariant.0 c.cycle_at.ensures c.if-cycle_at.true 5 c.if-tag-eq5.true)
+pub overflow_add-here-in-Some : goal.overflow_add-here-in-Some
+overflow_add-here-in-Some c = omega (arith, inside c.loop-more.invariant.0 c.cycle_at.ensures c.if-cycle_at.true 5 c.if-tag-eq5.true)
 
 pub number_at-lent-requires : goal.number_at-lent-requires
 number_at-lent-requires c = omega (arith, inside c.loop-more.invariant.0 c.cycle_at.ensures c.if-cycle_at.true 5 c.if-tag-eq5.true)
 
-pub slice_bounds-taken-end-then-more-4 : goal.slice_bounds-taken-end-then-more-4
-slice_bounds-taken-end-then-more-4 c =
-    let t = turn c.loop-more.invariant.0 c.cycle_at.ensures c.if-cycle_at.true c.answer_size-size.ensures c.fill.ensures c.size_of-next.ensures in
+pub slice_bounds-taken-end-in-Some-4 : goal.slice_bounds-taken-end-in-Some-4
+slice_bounds-taken-end-in-Some-4 c =
+    let t = turn c.loop-more.invariant.0 c.cycle_at.ensures c.if-cycle_at.true c.answer_size-size.ensures c.blank.ensures c.size_of-next.ensures in
     fetch-lent t c.if-tag-eq5.true c.number_at-lent.ensures
 
-pub slice_bounds-taken-end-then-more-5 : goal.slice_bounds-taken-end-then-more-5
-slice_bounds-taken-end-then-more-5 c =
-    let t = turn c.loop-more.invariant.0 c.cycle_at.ensures c.if-cycle_at.true c.answer_size-size.ensures c.fill.ensures c.size_of-next.ensures in
+pub slice_bounds-taken-end-in-Some-5 : goal.slice_bounds-taken-end-in-Some-5
+slice_bounds-taken-end-in-Some-5 c =
+    let t = turn c.loop-more.invariant.0 c.cycle_at.ensures c.if-cycle_at.true c.answer_size-size.ensures c.blank.ensures c.size_of-next.ensures in
     sym (length-take-le _ _ (fetch-lent t c.if-tag-eq5.true c.number_at-lent.ensures))
 
 pub taken-r-requires : goal.taken-r-requires
@@ -210,12 +194,12 @@ taken-r-requires c =
     record {
       sized = i.1.units;
       tracks_sized = i.1.tracks;
-      takable = fetch-takable i.0.played.valid i.1.names c.look-looked.ensures c.if-more.true c.latency.ensures;
+      takable = fetch-takable i.0.played.valid i.1.names c.look-looked.ensures c.in-Some.is c.latency.ensures;
     }
 
 pub put_answer-requires : goal.put_answer-requires
 put_answer-requires c =
-    let t = turn c.loop-more.invariant.0 c.cycle_at.ensures c.if-cycle_at.true c.answer_size-size.ensures c.fill.ensures c.size_of-next.ensures in
+    let t = turn c.loop-more.invariant.0 c.cycle_at.ensures c.if-cycle_at.true c.answer_size-size.ensures c.blank.ensures c.size_of-next.ensures in
     number-room c.taken-r.result.no _ _ _ c.done_or.ensures (turn_byte t)
 
 pub slot-s-requires : goal.slot-s-requires
@@ -242,8 +226,8 @@ offset_bounds-decoded-place c = omega (arith, c.taken-r.ensures.done.place c.if-
 pub bounds-decoded-place : goal.bounds-decoded-place
 bounds-decoded-place c = c.taken-r.ensures.done.place c.if-r-eq0.true
 
-pub opened-window-requires : goal.opened-window-requires
-opened-window-requires c =
+pub open-requires : goal.open-requires
+open-requires c =
     record { window_ok = c.loop-more.invariant.0.played.valid.parts.window; next_lt_max64 = c.taken-r.ensures.done.next c.if-r-eq0.true }
 
 pub loop-more-smaller-then-r-eq0 : goal.loop-more-smaller-then-r-eq0
@@ -254,11 +238,11 @@ pub loop-more-preserved-then-r-eq0 : goal.loop-more-preserved-then-r-eq0
 loop-more-preserved-then-r-eq0 c =
     let i = c.loop-more.invariant in
     let v = i.0.played.valid in
-    let t = turn i.0 c.cycle_at.ensures c.if-cycle_at.true c.answer_size-size.ensures c.fill.ensures c.size_of-next.ensures in
-    let h = fetch-holds v i.1.names c.look-looked.ensures c.if-more.true c.latency.ensures in
+    let t = turn i.0 c.cycle_at.ensures c.if-cycle_at.true c.answer_size-size.ensures c.blank.ensures c.size_of-next.ensures in
+    let h = fetch-holds v i.1.names c.look-looked.ensures c.in-Some.is c.latency.ensures in
     let y =
     fetched t c.if-tag-eq5.true c.number_at-lent.ensures _ c.op_at-op.ensures
-    (does-fetch c.taken-r.ensures.done c.if-r-eq0.true h c.opened-window.ensures.is c.slot-s.ensures.is c.of-d.ensures c.of-t.ensures
+    (does-fetch c.taken-r.ensures.done c.if-r-eq0.true h c.open.ensures.is c.slot-s.ensures.is c.of-d.ensures c.of-t.ensures
     c.row_of-x.ensures.is c.done_or.ensures)
     (c.taken-r.ensures.memory (engine-of v) (engine-of v).table h) in
     (turn-done t y c.put_answer.ensures.is, record { units = i.1.units; tracks = c.taken-r.ensures.tracks; names = i.1.names })
@@ -271,8 +255,8 @@ pub loop-more-preserved-else-r-eq0 : goal.loop-more-preserved-else-r-eq0
 loop-more-preserved-else-r-eq0 c =
     let i = c.loop-more.invariant in
     let v = i.0.played.valid in
-    let t = turn i.0 c.cycle_at.ensures c.if-cycle_at.true c.answer_size-size.ensures c.fill.ensures c.size_of-next.ensures in
-    let h = fetch-holds v i.1.names c.look-looked.ensures c.if-more.true c.latency.ensures in
+    let t = turn i.0 c.cycle_at.ensures c.if-cycle_at.true c.answer_size-size.ensures c.blank.ensures c.size_of-next.ensures in
+    let h = fetch-holds v i.1.names c.look-looked.ensures c.in-Some.is c.latency.ensures in
     let y =
     fetched t c.if-tag-eq5.true c.number_at-lent.ensures _ c.op_at-op.ensures
     (c.taken-r.ensures.done.refuses c.if-r-eq0.false (engine-of v) (engine-of v).table h c.done_or.result c.done_or.ensures)
@@ -280,16 +264,16 @@ loop-more-preserved-else-r-eq0 c =
     (turn-done t y c.put_answer.ensures.is, record { units = i.1.units; tracks = c.taken-r.ensures.tracks; names = i.1.names })
 
 -- A name is not held: nothing is played.
-pub loop-more-smaller-else-more : goal.loop-more-smaller-else-more
-loop-more-smaller-else-more c = turns-stop c.loop-more-test.true c.args.list.now c.loop-more.next c.if-more.false
+pub loop-more-smaller-in_default : goal.loop-more-smaller-in_default
+loop-more-smaller-in_default c = turns-stop c.loop-more-test.true c.args.list.now c.loop-more.next refl
 
-pub loop-more-preserved-else-more : goal.loop-more-preserved-else-more
-loop-more-preserved-else-more c = c.loop-more.invariant
+pub loop-more-preserved-in_default : goal.loop-more-preserved-in_default
+loop-more-preserved-in_default c = c.loop-more.invariant
 
 -- ── The other calls ─────────────────────────────────────────────────────────
 
-pub fill-requires-else-tag-eq5 : goal.fill-requires-else-tag-eq5
-fill-requires-else-tag-eq5 c = fits c.loop-more.invariant.0 c.cycle_at.ensures c.if-cycle_at.true c.answer_size-size.ensures
+pub blank-requires-else-tag-eq5 : goal.blank-requires-else-tag-eq5
+blank-requires-else-tag-eq5 c = fits c.loop-more.invariant.0 c.cycle_at.ensures c.if-cycle_at.true c.answer_size-size.ensures
 
 pub overflow_add-end-else-tag-eq5 : goal.overflow_add-end-else-tag-eq5
 overflow_add-end-else-tag-eq5 c =
@@ -306,7 +290,7 @@ pub put_answer-requires-then-board : goal.put_answer-requires-then-board
 unfolding byte_at lent_of
 put_answer-requires-then-board c =
     let t =
-    turn c.loop-more.invariant.0 c.cycle_at.ensures c.if-cycle_at.true c.answer_size-size.ensures c.fill-else-tag-eq5.ensures
+    turn c.loop-more.invariant.0 c.cycle_at.ensures c.if-cycle_at.true c.answer_size-size.ensures c.blank-else-tag-eq5.ensures
     c.size_of-next-else-tag-eq5.ensures in
     turn-room t (none-at _ _ c.in-0.is refl _ refl (does-no-start (turn-valid t) c.if-board.true c.done_or-then-board.ensures))
 
@@ -319,7 +303,7 @@ unfolding byte_at lent_of
 loop-more-preserved-then-board c =
     let i = c.loop-more.invariant in
     let t =
-    turn i.0 c.cycle_at.ensures c.if-cycle_at.true c.answer_size-size.ensures c.fill-else-tag-eq5.ensures c.size_of-next-else-tag-eq5.ensures in (
+    turn i.0 c.cycle_at.ensures c.if-cycle_at.true c.answer_size-size.ensures c.blank-else-tag-eq5.ensures c.size_of-next-else-tag-eq5.ensures in (
       turn-done t (none-at _ _ c.in-0.is refl _ refl (does-no-start (turn-valid t) c.if-board.true c.done_or-then-board.ensures))
           c.put_answer-then-board.ensures.is,
       i.1,
@@ -341,7 +325,7 @@ pub put_answer-requires-else-board : goal.put_answer-requires-else-board
 unfolding byte_at lent_of
 put_answer-requires-else-board c =
     let t =
-    turn c.loop-more.invariant.0 c.cycle_at.ensures c.if-cycle_at.true c.answer_size-size.ensures c.fill-else-tag-eq5.ensures
+    turn c.loop-more.invariant.0 c.cycle_at.ensures c.if-cycle_at.true c.answer_size-size.ensures c.blank-else-tag-eq5.ensures
     c.size_of-next-else-tag-eq5.ensures in
     turn-room t
     (none-at _ _ c.in-0.is refl _ refl (does-start (turn-valid t) c.if-board.false c.start-board.ensures.is c.start_answer.ensures))
@@ -355,7 +339,7 @@ unfolding byte_at lent_of
 loop-more-preserved-else-board c =
     let i = c.loop-more.invariant in
     let t =
-    turn i.0 c.cycle_at.ensures c.if-cycle_at.true c.answer_size-size.ensures c.fill-else-tag-eq5.ensures c.size_of-next-else-tag-eq5.ensures in (
+    turn i.0 c.cycle_at.ensures c.if-cycle_at.true c.answer_size-size.ensures c.blank-else-tag-eq5.ensures c.size_of-next-else-tag-eq5.ensures in (
       turn-done t
           (none-at _ _ c.in-0.is refl _ refl (does-start (turn-valid t) c.if-board.false c.start-board.ensures.is c.start_answer.ensures))
           c.put_answer-else-board.ensures.is,
@@ -371,7 +355,7 @@ pub put_answer-requires-in-1 : goal.put_answer-requires-in-1
 unfolding byte_at lent_of
 put_answer-requires-in-1 c =
     let t =
-    turn c.loop-more.invariant.0 c.cycle_at.ensures c.if-cycle_at.true c.answer_size-size.ensures c.fill-else-tag-eq5.ensures
+    turn c.loop-more.invariant.0 c.cycle_at.ensures c.if-cycle_at.true c.answer_size-size.ensures c.blank-else-tag-eq5.ensures
     c.size_of-next-else-tag-eq5.ensures in
     let v = turn-valid t in
     turn-room t
@@ -387,7 +371,7 @@ unfolding byte_at lent_of
 loop-more-preserved-in-1 c =
     let i = c.loop-more.invariant in
     let t =
-    turn i.0 c.cycle_at.ensures c.if-cycle_at.true c.answer_size-size.ensures c.fill-else-tag-eq5.ensures c.size_of-next-else-tag-eq5.ensures in
+    turn i.0 c.cycle_at.ensures c.if-cycle_at.true c.answer_size-size.ensures c.blank-else-tag-eq5.ensures c.size_of-next-else-tag-eq5.ensures in
     let v = turn-valid t in (
       turn-done t
           (none-at _ _ c.in-1.is refl _ refl
@@ -398,8 +382,8 @@ loop-more-preserved-in-1 c =
 
 -- ── Advance ─────────────────────────────────────────────────────────────────
 
-pub overflow_add-here-in_default : goal.overflow_add-here-in_default
-overflow_add-here-in_default c =
+pub overflow_add-here-in_default-tag : goal.overflow_add-here-in_default-tag
+overflow_add-here-in_default-tag c =
     let i = c.loop-more.invariant.0 in
     let k = is-advance i c.cycle_at.ensures c.if-cycle_at.true c.if-tag-eq5.false (λ z. omega arith) (λ z. omega arith) in
     omega (arith, inside i c.cycle_at.ensures c.if-cycle_at.true 4 k)
@@ -410,44 +394,44 @@ maybe_number_at-redirect-requires c =
     let k = is-advance i c.cycle_at.ensures c.if-cycle_at.true c.if-tag-eq5.false (λ z. omega arith) (λ z. omega arith) in
     omega (arith, inside i c.cycle_at.ensures c.if-cycle_at.true 4 k)
 
-pub overflow_add-here-in_default-2 : goal.overflow_add-here-in_default-2
-overflow_add-here-in_default-2 c =
+pub overflow_add-here-in_default-tag-2 : goal.overflow_add-here-in_default-tag-2
+overflow_add-here-in_default-tag-2 c =
     let i = c.loop-more.invariant.0 in
     let k = is-advance i c.cycle_at.ensures c.if-cycle_at.true c.if-tag-eq5.false (λ z. omega arith) (λ z. omega arith) in
     omega (arith, inside i c.cycle_at.ensures c.if-cycle_at.true 4 k)
 
-pub number_at-lent-requires-in_default : goal.number_at-lent-requires-in_default
-number_at-lent-requires-in_default c =
+pub number_at-lent-requires-in_default-tag : goal.number_at-lent-requires-in_default-tag
+number_at-lent-requires-in_default-tag c =
     let i = c.loop-more.invariant.0 in
     let k = is-advance i c.cycle_at.ensures c.if-cycle_at.true c.if-tag-eq5.false (λ z. omega arith) (λ z. omega arith) in
     omega (arith, inside i c.cycle_at.ensures c.if-cycle_at.true 4 k)
 
-pub slice_bounds-advanced-end-in_default-4 : goal.slice_bounds-advanced-end-in_default-4
-slice_bounds-advanced-end-in_default-4 c =
+pub slice_bounds-advanced-end-in_default-tag-4 : goal.slice_bounds-advanced-end-in_default-tag-4
+slice_bounds-advanced-end-in_default-tag-4 c =
     let i = c.loop-more.invariant.0 in
-    let t = turn i c.cycle_at.ensures c.if-cycle_at.true c.answer_size-size.ensures c.fill-else-tag-eq5.ensures c.size_of-next-else-tag-eq5.ensures in
+    let t = turn i c.cycle_at.ensures c.if-cycle_at.true c.answer_size-size.ensures c.blank-else-tag-eq5.ensures c.size_of-next-else-tag-eq5.ensures in
     let k = is-advance i c.cycle_at.ensures c.if-cycle_at.true c.if-tag-eq5.false (λ z. omega arith) (λ z. omega arith) in
-    advance-lent t k c.number_at-lent-in_default.ensures
+    advance-lent t k c.number_at-lent-in_default-tag.ensures
 
-pub slice_bounds-advanced-end-in_default-5 : goal.slice_bounds-advanced-end-in_default-5
-slice_bounds-advanced-end-in_default-5 c =
+pub slice_bounds-advanced-end-in_default-tag-5 : goal.slice_bounds-advanced-end-in_default-tag-5
+slice_bounds-advanced-end-in_default-tag-5 c =
     let i = c.loop-more.invariant.0 in
-    let t = turn i c.cycle_at.ensures c.if-cycle_at.true c.answer_size-size.ensures c.fill-else-tag-eq5.ensures c.size_of-next-else-tag-eq5.ensures in
+    let t = turn i c.cycle_at.ensures c.if-cycle_at.true c.answer_size-size.ensures c.blank-else-tag-eq5.ensures c.size_of-next-else-tag-eq5.ensures in
     let k = is-advance i c.cycle_at.ensures c.if-cycle_at.true c.if-tag-eq5.false (λ z. omega arith) (λ z. omega arith) in
-    sym (length-take-le _ _ (advance-lent t k c.number_at-lent-in_default.ensures))
+    sym (length-take-le _ _ (advance-lent t k c.number_at-lent-in_default-tag.ensures))
 
 pub advanced-r-requires : goal.advanced-r-requires
 advanced-r-requires c =
     let i = c.loop-more.invariant in record { sized = i.1.units; tracks_sized = i.1.tracks; restable = restable i.0.played.valid }
 
-pub put_answer-requires-in_default : goal.put_answer-requires-in_default
-put_answer-requires-in_default c =
+pub put_answer-requires-in_default-tag : goal.put_answer-requires-in_default-tag
+put_answer-requires-in_default-tag c =
     let i = c.loop-more.invariant.0 in
-    let t = turn i c.cycle_at.ensures c.if-cycle_at.true c.answer_size-size.ensures c.fill-else-tag-eq5.ensures c.size_of-next-else-tag-eq5.ensures in
+    let t = turn i c.cycle_at.ensures c.if-cycle_at.true c.answer_size-size.ensures c.blank-else-tag-eq5.ensures c.size_of-next-else-tag-eq5.ensures in
     let k = is-advance i c.cycle_at.ensures c.if-cycle_at.true c.if-tag-eq5.false (λ z. omega arith) (λ z. omega arith) in
     let v = turn-valid t in
     turn-room t
-    (advanced t k c.number_at-lent-in_default.ensures c.maybe_number_at-redirect.ensures (c.advanced-r.ensures.done (engine-of v) v)
+    (advanced t k c.number_at-lent-in_default-tag.ensures c.maybe_number_at-redirect.ensures (c.advanced-r.ensures.done (engine-of v) v)
     (c.advanced-r.ensures.memory (engine-of v) v))
 
 pub loop-more-smaller : goal.loop-more-smaller
@@ -457,13 +441,13 @@ loop-more-smaller c =
 pub loop-more-preserved : goal.loop-more-preserved
 loop-more-preserved c =
     let i = c.loop-more.invariant in
-    let t = turn i.0 c.cycle_at.ensures c.if-cycle_at.true c.answer_size-size.ensures c.fill-else-tag-eq5.ensures c.size_of-next-else-tag-eq5.ensures in
+    let t = turn i.0 c.cycle_at.ensures c.if-cycle_at.true c.answer_size-size.ensures c.blank-else-tag-eq5.ensures c.size_of-next-else-tag-eq5.ensures in
     let k = is-advance i.0 c.cycle_at.ensures c.if-cycle_at.true c.if-tag-eq5.false (λ z. omega arith) (λ z. omega arith) in
     let v = turn-valid t in (
       turn-done t
-          (advanced t k c.number_at-lent-in_default.ensures c.maybe_number_at-redirect.ensures (c.advanced-r.ensures.done (engine-of v) v)
+          (advanced t k c.number_at-lent-in_default-tag.ensures c.maybe_number_at-redirect.ensures (c.advanced-r.ensures.done (engine-of v) v)
           (c.advanced-r.ensures.memory (engine-of v) v))
-          c.put_answer-in_default.ensures.is,
+          c.put_answer-in_default-tag.ensures.is,
       record { units = c.advanced-r.ensures.units; tracks = c.advanced-r.ensures.tracks; names = i.1.names },
     )
 

@@ -1,7 +1,7 @@
 -- Each call is that of the engine made of the variables.
+use Rattle.op.specs.declared.chars.Chars.{Chars}
 use Prim.Native.Nat.{ℕ}
 use mathlib.Core.List.{List}
-use Rattle.op.specs.declared.Name.{Name}
 use Rattle.config.specs.declared.Machine.{Machine}
 use Rattle.flight.specs.declared.pool.DecodedPool.{DecodedPool}
 use Rattle.flight.specs.declared.pool.TextPool.{TextPool}
@@ -16,7 +16,7 @@ use Rattle.engine.specs.View.{view_engine}
 use Rattle.calls.proofs.Cycling.{Lines, Cycling, turns}
 use Rattle.calls.proofs.cycles.play_cycles.Given as goal
 
-abbrev pub whole : Sequencer → List (List ℕ) → List ℕ → ℕ → Window → List (List ℕ) → List ℕ → DecodedPool → Machine → List Name → ℕ → ℕ → TextPool
+abbrev pub whole : Sequencer → List (List ℕ) → List ℕ → ℕ → Window → List (List ℕ) → List ℕ → DecodedPool → Machine → List (Chars 16) → ℕ → ℕ → TextPool
     → RowTexts → Engine
 whole b us ss n w ts fs ds m names known held xs rs =
     record {

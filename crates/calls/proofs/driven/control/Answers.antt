@@ -21,9 +21,9 @@ pub flag_at-requires : goal.flag_at-requires
 unfolding byte_at
 flag_at-requires c = omega (arith, inside-by _ _ c.requires.at_value 7 c.in-7.is)
 
-pub text_at-requires : goal.text_at-requires
+pub chars_at-requires : goal.chars_at-requires
 unfolding byte_at
-text_at-requires c = omega (arith, inside-by _ _ c.requires.at_value 9 c.in-9.is)
+chars_at-requires c = omega (arith, inside-by _ _ c.requires.at_value 9 c.in-9.is)
 
 pub overflow_add-at-in_default : goal.overflow_add-at-in_default
 unfolding byte_at
@@ -51,7 +51,7 @@ returns-in-8 c = done_at _ _ c.in-8.is refl c.halt.ensures
 
 pub returns-in-9 : goal.returns-in-9
 unfolding byte_at
-returns-in-9 c = done_at _ _ c.in-9.is (ap fault c.text_at.ensures) c.fault.ensures
+returns-in-9 c = done_at _ _ c.in-9.is (ap fault c.chars_at.ensures) c.fault.ensures
 
 pub returns-in_default : goal.returns-in_default
 unfolding byte_at

@@ -9,9 +9,9 @@ use Rattle.calls.proofs.driven.cycle.Goals as goal
 pub bounds-list-at : goal.bounds-list-at
 bounds-list-at c = here _ _ c.requires.at_value
 
-pub text_at-requires : goal.text_at-requires
+pub chars_at-requires : goal.chars_at-requires
 unfolding byte_at
-text_at-requires c = omega (arith, inside-by _ _ c.requires.at_value 2 c.in-2.is)
+chars_at-requires c = omega (arith, inside-by _ _ c.requires.at_value 2 c.in-2.is)
 
 pub number_at-requires : goal.number_at-requires
 unfolding byte_at
@@ -29,7 +29,7 @@ returns-in-1 c = done_at _ _ c.in-1.is refl c.retire.ensures
 
 pub returns-in-2 : goal.returns-in-2
 unfolding byte_at
-returns-in-2 c = done_at _ _ c.in-2.is (ap retry c.text_at.ensures) c.retry.ensures
+returns-in-2 c = done_at _ _ c.in-2.is (ap retry c.chars_at.ensures) c.retry.ensures
 
 pub returns-in_default : goal.returns-in_default
 unfolding byte_at

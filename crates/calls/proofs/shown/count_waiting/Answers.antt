@@ -5,18 +5,6 @@ use Rattle.decoding.specs.Calls.{plain_view}
 use Rattle.calls.proofs.Shows.{shown_by}
 use Rattle.calls.proofs.shown.count_waiting.Goals as goal
 
-pub returns-in-25 : goal.returns-in-25
-unfolding show plain_view
-returns-in-25 c = shown_by plain_view c.in-25.is _ (ap shown_number c.rename_count.ensures)
-
-pub returns-in-26 : goal.returns-in-26
-unfolding show plain_view
-returns-in-26 c = shown_by plain_view c.in-26.is _ (ap shown_number c.queue_count.ensures)
-
-pub returns-in-27 : goal.returns-in-27
-unfolding show plain_view
-returns-in-27 c = shown_by plain_view c.in-27.is _ (ap shown_number c.buffer_count.ensures)
-
 pub returns-in_default : goal.returns-in_default
 unfolding show plain_view
 returns-in_default c =

@@ -1,6 +1,6 @@
-use mathlib.Core.Path.{◌≡◌, ap, ap₂}
+use mathlib.Core.Path.{◌≡◌, ap₂}
 use native.Mathlib.Omega.{arith}
-use Rattle.model.specs.Requests.{unit_name, station_label, rename_register, cell_label, operand_register}
+use Rattle.model.specs.Requests.{operand_register}
 use Rattle.decoding.specs.Bytes.{byte_at}
 use Rattle.calls.proofs.Which.{here, known, inside-by, number-there}
 use Rattle.calls.proofs.Asks.{asked-at}
@@ -26,30 +26,6 @@ unfolding byte_at
 number_at-slot-requires c =
     let e : byte_at c.args.list.now c.args.at ≡ 48 = omega (arith, known _ _ c.requires.at_value) in
     omega (arith, inside-by _ _ c.requires.at_value 48 (e))
-
-pub returns-in-44 : goal.returns-in-44
-unfolding byte_at
-returns-in-44 c =
-    let t = asked-at _ _ c.in-44.is (ap unit_name c.number_at-i.ensures) _ _ (c.unit_name.ensures.answer, c.unit_name.ensures.buffer) in
-    record { answer = t.0; buffer = t.1 }
-
-pub returns-in-45 : goal.returns-in-45
-unfolding byte_at
-returns-in-45 c =
-    let t = asked-at _ _ c.in-45.is (ap station_label c.number_at-i.ensures) _ _ (c.station_label.ensures.answer, c.station_label.ensures.buffer) in
-    record { answer = t.0; buffer = t.1 }
-
-pub returns-in-46 : goal.returns-in-46
-unfolding byte_at
-returns-in-46 c =
-    let t = asked-at _ _ c.in-46.is (ap rename_register c.number_at-i.ensures) _ _ (c.rename_register.ensures.answer, c.rename_register.ensures.buffer) in
-    record { answer = t.0; buffer = t.1 }
-
-pub returns-in-47 : goal.returns-in-47
-unfolding byte_at
-returns-in-47 c =
-    let t = asked-at _ _ c.in-47.is (ap cell_label c.number_at-i.ensures) _ _ (c.cell_label.ensures.answer, c.cell_label.ensures.buffer) in
-    record { answer = t.0; buffer = t.1 }
 
 pub returns-in_default : goal.returns-in_default
 unfolding byte_at

@@ -1,6 +1,6 @@
-use mathlib.Core.Path.{◌≡◌, refl, ap, ap₂}
+use mathlib.Core.Path.{◌≡◌, ap}
 use native.Mathlib.Omega.{arith}
-use Rattle.model.specs.Requests.{slot_text, trace_detail, row_disassembly, stage_name, text_at}
+use Rattle.model.specs.Requests.{trace_detail, stage_name, text_at}
 use Rattle.decoding.specs.Bytes.{byte_at}
 use Rattle.calls.proofs.Which.{here, inside-by, number-there}
 use Rattle.calls.proofs.Asks.{asked-at}
@@ -23,28 +23,10 @@ pub field_at-field-requires : goal.field_at-field-requires
 unfolding byte_at
 field_at-field-requires c = omega (arith, inside-by _ _ c.requires.at_value 40 c.in-40.is)
 
-pub returns-in-39 : goal.returns-in-39
-unfolding byte_at
-returns-in-39 c =
-    let t = asked-at _ _ c.in-39.is refl _ _ (c.status_message.ensures.answer, c.status_message.ensures.buffer) in
-    record { answer = t.0; buffer = t.1 }
-
-pub returns-in-40 : goal.returns-in-40
-unfolding byte_at
-returns-in-40 c =
-    let t = asked-at _ _ c.in-40.is (ap₂ slot_text c.place_at-place.ensures c.field_at-field.ensures) _ _ (c.slot_text.ensures.answer, c.slot_text.ensures.buffer) in
-    record { answer = t.0; buffer = t.1 }
-
 pub returns-in-41 : goal.returns-in-41
 unfolding byte_at
 returns-in-41 c =
     let t = asked-at _ _ c.in-41.is (ap trace_detail c.number_at-i.ensures) _ _ (c.trace_detail.ensures.answer, c.trace_detail.ensures.buffer) in
-    record { answer = t.0; buffer = t.1 }
-
-pub returns-in-42 : goal.returns-in-42
-unfolding byte_at
-returns-in-42 c =
-    let t = asked-at _ _ c.in-42.is (ap row_disassembly c.number_at-i.ensures) _ _ (c.row_disassembly.ensures.answer, c.row_disassembly.ensures.buffer) in
     record { answer = t.0; buffer = t.1 }
 
 pub returns-in_default : goal.returns-in_default
