@@ -7,119 +7,44 @@ ghost use Rattle.std.specs.Prelude.{◌≡◌, length, IfOk};
 ghost use Rattle.scoreboard.specs.Valid.{Valid};
 
 use capability::{PipelineInstructionClass, PipelineStageRole};
-use config::{PipelineShape, StageSpec};
+use config::{PipelineShape, StageSpec, UnitSpec};
 use engine::Answer;
-use op::{MaybeName, MaybeNumber, MaybeText, Name, PipelineOp, Text};
-use scoreboard::{Next, ScoreboardPipeline};
+use op::{Name, PipelineOp, Text};
+use scoreboard::ScoreboardPipeline;
 use std::io;
-use traces::texts::{Written, write_label};
 
 // ── The machine and its operations ──────────────────────────────────────────
 
 fn machine() -> PipelineShape {
     let mut shape = PipelineShape::empty();
-    let fetch = StageSpec {
-        role: PipelineStageRole::Fetch,
-    };
-    let decode = StageSpec {
-        role: PipelineStageRole::Decode,
-    };
-    let execute = StageSpec {
-        role: PipelineStageRole::Execute,
-    };
-    let mut unit = config::UnitSpec::generic();
-    unit.capacity = 3;
-    shape.stages[0] = fetch;
-    shape.stages[1] = decode;
-    shape.stages[2] = execute;
+    shape.stages[0].role = PipelineStageRole::Fetch;
+    shape.stages[1].role = PipelineStageRole::Decode;
+    shape.stages[2].role = PipelineStageRole::Execute;
     shape.stages_len = 3;
-    shape.units[0] = unit;
+    shape.units[0] = UnitSpec {
+        capacity: 3,
+        ..UnitSpec::generic()
+    };
     shape.units_len = 1;
     shape.timing.mul = 2;
     shape.history = 4;
     shape
 }
 
-// An operation of four bytes, with up to two sources and one write.
-fn operation(
-    class: PipelineInstructionClass,
-    address: u64,
-    text: Text,
-    sources: u8,
-    writes: u8,
-    write: Name,
-) -> PipelineOp {
+// The operation of a number: a, b, c. Each has four bytes.
+fn operation_at(number: u64, address: u64) -> PipelineOp {
     let x1 = Name::from_slice(b"x1");
     let x2 = Name::from_slice(b"x2");
-    PipelineOp {
-        address,
-        length: 4,
-        class,
-        branch: false,
-        atomic: false,
-        disassembly: text,
-        fault: MaybeText::none(),
-        destination: MaybeName::none(),
-        sources: [x2, x1, x1, x1, x1, x1, x1, x1],
-        sources_len: sources,
-        writes: [write; 4],
-        writes_len: writes,
-        payload: 0,
-    }
-}
-
-// The operation of a number: a, b, c.
-fn operation_at(number: usize, address: u64) -> PipelineOp {
-    let x1 = Name::from_slice(b"x1");
-    let x2 = Name::from_slice(b"x2");
-    match number {
-        0 => operation(
-            PipelineInstructionClass::Multiply,
-            address,
-            Text::from_slice(b"a"),
-            0,
-            1,
-            x2,
-        ),
-        1 => operation(
-            PipelineInstructionClass::Alu,
-            address,
-            Text::from_slice(b"b"),
-            2,
-            0,
-            x1,
-        ),
-        _ => operation(
-            PipelineInstructionClass::Alu,
-            address,
-            Text::from_slice(b"c"),
-            0,
-            1,
-            x1,
-        ),
-    }
-}
-
-// ── Lines ───────────────────────────────────────────────────────────────────
-
-// What was written.
-fn put(rt: &impl Print, w: Written, out: &[u8]) -> io::Result<()> {
-    if let Written::Bytes(n) = w {
-        if n <= out.len() {
-            rt.write_all(&out[..n])?;
-        }
-    }
-    Ok(())
-}
-
-fn print(rt: &impl Print, text: &[u8], number: u64) -> io::Result<()> {
-    let mut out = [0u8; 256];
-    let w = write_label(text, number as usize, &mut out);
-    put(rt, w, &out)
-}
-
-fn end(rt: &impl Print) -> io::Result<()> {
-    rt.write_all(b"\n")
+    let alu = PipelineInstructionClass::Alu;
+    let multiply = PipelineInstructionClass::Multiply;
+    let op = match number {
+        0 => PipelineOp::new(address, Text::from_slice(b"a"), multiply, 0).also_writes(x2),
+        1 => PipelineOp::new(address, Text::from_slice(b"b"), alu, 0)
+            .reading(x2)
+            .reading(x1),
+        _ => PipelineOp::new(address, Text::from_slice(b"c"), alu, 0).also_writes(x1),
+    };
+    op.with_length(4)
 }
 
 // ── The run ─────────────────────────────────────────────────────────────────
@@ -131,44 +56,30 @@ fn offered(rt: &impl Print, engine: ScoreboardPipeline) -> io::Result<Scoreboard
 {
     let next = engine.start_cycle();
     let after = next.engine;
-    let answer = next.answer;
-    match answer {
-        Answer::Offered(v) => {
-            print(rt, b"operation ", v.seq)?;
-            print(rt, b" in cycle ", after.board.log.stats.cycles)?;
-            end(rt)?;
-            let settled = after.retire();
-            Ok(settled.engine)
-        }
-        _ => Ok(after),
-    }
+    let Answer::Offered(offer) = next.answer else {
+        return Ok(after);
+    };
+    println!(rt;
+        "operation {} in cycle {}",
+        offer.seq, after.board.log.stats.cycles
+    )?;
+    Ok(after.retire().engine)
 }
 
-// The second half: an operation is fetched where one is invited.
-fn advanced(engine: ScoreboardPipeline, number: usize, cells: &mut [u8]) -> Next
+// The second half: of three operations the next is fetched where one is invited.
+fn advanced(engine: ScoreboardPipeline, cells: &mut [u8]) -> ScoreboardPipeline
     requires { Valid engine }
-    ensures valid { Valid result.engine }
+    ensures valid { Valid result }
     ensures size { length cells.new ≡ length cells.old }
 {
-    let next = engine.advance(MaybeNumber::Nothing, cells);
+    let next = engine.advance(None, cells);
     let after = next.engine;
-    let answer = next.answer;
-    match answer {
-        Answer::Invitation(address) => {
-            if number < 3 {
-                let op = operation_at(number, address);
-                after.fetched(op, cells)
-            } else {
-                Next {
-                    engine: after,
-                    answer: Answer::NoInvitation,
-                }
-            }
+    let number = after.window.next;
+    match next.answer {
+        Answer::Invitation(address) if number < 3 => {
+            after.fetched(operation_at(number, address), cells).engine
         }
-        _ => Next {
-            engine: after,
-            answer: Answer::NoInvitation,
-        },
+        _ => after,
     }
 }
 
@@ -181,17 +92,9 @@ fn run(
     ensures { IfOk result (λ e. Valid e) }
 {
     let mut e = engine;
-    let mut number: usize = 0;
-    let mut i: usize = 0;
-    while i < 16 {
+    for _ in 0..16 {
         let half = offered(rt, e)?;
-        let next = advanced(half, number, cells);
-        e = next.engine;
-        let answer = next.answer;
-        if let Answer::Done = answer {
-            number += 1;
-        }
-        i += 1;
+        e = advanced(half, cells);
     }
     Ok(e)
 }
@@ -199,10 +102,8 @@ fn run(
 fn main(rt: HostRuntime) -> io::Result<()> {
     let mut cells = [255u8; 800];
     let made = ScoreboardPipeline::new(machine(), 0, &mut cells);
-    let idle = made.engine;
-    let on = idle.set_enabled(true);
+    let on = made.engine.set_enabled(true);
     let e = run(&rt, on.engine, &mut cells)?;
-    print(&rt, b"RAW ", e.board.log.stats.raw_stalls)?;
-    print(&rt, b", WAR ", e.board.log.stats.war_stalls)?;
-    end(&rt)
+    let stats = e.board.log.stats;
+    println!(rt; "RAW {}, WAR {}", stats.raw_stalls, stats.war_stalls)
 }

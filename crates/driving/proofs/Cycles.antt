@@ -3,32 +3,17 @@ use Prim.Native.Nat.{ℕ, ◌≤◌, ◌<◌}
 use mathlib.Core.Path.{◌≡◌, refl, sym, subst, ap, ap₂, ◌∙◌}
 use mathlib.Core.Bool.{Bool, true, false, cond, not, ◌||◌}
 use mathlib.Core.Logic.{⊎_elim}
-use mathlib.Core.Option.{Option, none, some}
+use Rattle.std.specs.Prelude.{Option, None, Some, is_some, option_map}
 use mathlib.Core.List.{List, [], ◌∷◌}
 use lib.Dec.{eqb}
 use lib.ListN.{length}
-use Rattle.laws.specs.Optional.{is_none, is_some, when_some, omap}
+use Rattle.laws.specs.Optional.{is_none, when_some}
 use Rattle.laws.proofs.Tests.{cond_yes, cond_no, lt-or-ge}
 use Rattle.model.specs.State.{State}
 use Rattle.model.specs.Timeline.{write_all}
 use Rattle.model.specs.Units.{unit_at}
 use Rattle.model.specs.Write.{offered_op, start_cycle}
-use Rattle.model.specs.Calls.{
-  Call,
-  start,
-  retire,
-  advance,
-  done,
-  refused,
-  no_offer as none-on-offer,
-  first_of,
-  checks,
-  refusal,
-  run,
-  after,
-  sets,
-  memory_after,
-}
+use Rattle.model.specs.Calls.{Call, start, retire, advance, done, refused, no_offer as none-on-offer, first_of, checks, refusal, run, after, sets, memory_after}
 use Rattle.model.specs.Forecast.{lent_of, play, retire_offer, cycle}
 use Rattle.checks.specs.Numbered.{numbered}
 use Rattle.checks.proofs.Table.{passed}
@@ -57,8 +42,8 @@ unfolding memory_after write_all
 memory-same s c m e = go (refusal s c)
   where
     go : (o : Option ℕ) → when_some o (write_all (sets s c) m) (λ (k : ℕ). m) ≡ m
-    go none = ap (λ w. write_all w m) e
-    go (some k) = refl
+    go None = ap (λ w. write_all w m) e
+    go (Some k) = refl
 
 -- What a call leaves, whatever it answers.
 pub record Comes (e : Engine) (c : Call) (r : Engine) : Type 0 where
@@ -82,7 +67,7 @@ pub tells : (n : ℕ) → Tells n (told n)
 unfolding numbered view_answer told
 tells n = go (eqb n 0)
   where
-    go : (b : Bool) → view_answer (cond b Done (Refused n)) ≡ when_some (cond b none (some n)) done refused
+    go : (b : Bool) → view_answer (cond b Done (Refused n)) ≡ when_some (cond b None (Some n)) done refused
     go true = refl
     go false = refl
 
@@ -112,11 +97,11 @@ module _ {e : Engine} (v : Valid e) where
 module _ (e : Engine) where
   an-offer : e.board.offer.writing < 64 → is_some (offered_op (view_engine e)) ≡ true
   unfolding offered_op view_engine view_board
-  an-offer h = ap (λ (o : Option ℕ). is_some (omap (λ (i : ℕ). (unit_at (view_engine e).units i).op) o)) (an-index e.board.offer.writing h)
+  an-offer h = ap (λ (o : Option ℕ). is_some (option_map (λ (i : ℕ). (unit_at (view_engine e).units i).op) o)) (an-index e.board.offer.writing h)
 
   no_offer : 64 ≤ e.board.offer.writing → is_some (offered_op (view_engine e)) ≡ false
   unfolding offered_op view_engine view_board
-  no_offer h = ap (λ (o : Option ℕ). is_some (omap (λ (i : ℕ). (unit_at (view_engine e).units i).op) o)) (no_index e.board.offer.writing h)
+  no_offer h = ap (λ (o : Option ℕ). is_some (option_map (λ (i : ℕ). (unit_at (view_engine e).units i).op) o)) (no_index e.board.offer.writing h)
 
 module _ {e r : Engine} (d : Comes e start r) where
   begun : (m : List ℕ) → lent_of (view_engine r) m ≡ play start (lent_of (view_engine e) m)
@@ -144,14 +129,14 @@ module _ {e r : Engine} (d : Comes e start r) where
       }
 
 -- A retire where nothing is on offer is refused.
-no-retire : (e : Engine) → 64 ≤ e.board.offer.writing → refusal (view_engine e) retire ≡ some (cond e.board.front.in_cycle 6 5)
+no-retire : (e : Engine) → 64 ≤ e.board.offer.writing → refusal (view_engine e) retire ≡ Some (cond e.board.front.in_cycle 6 5)
 unfolding refusal checks none-on-offer first_of view_engine view_board
 no-retire e h =
     let b = e.board in
     ap (λ (o : Option ℕ). first_of ((5, not b.front.in_cycle) ∷ (6, is_none o || b.offer.retired) ∷ [])) (no_index b.offer.writing h)
     ∙ go b.front.in_cycle
   where
-    go : (c : Bool) → first_of ((5, not c) ∷ (6, true) ∷ []) ≡ some (cond c 6 5)
+    go : (c : Bool) → first_of ((5, not c) ∷ (6, true) ∷ []) ≡ Some (cond c 6 5)
     go true = refl
     go false = refl
 
@@ -162,13 +147,13 @@ settled {e} {r} d t =
 
 -- ── The advance ─────────────────────────────────────────────────────────────
 
-pub cycled : {e h : Engine} {k : Next} {m n : List ℕ} → Starts e h → Does h (advance none (length m)) k
-    → n ≡ memory_after (view_engine h) (advance none (length m)) m
+pub cycled : {e h : Engine} {k : Next} {m n : List ℕ} → Starts e h → Does h (advance None (length m)) k
+    → n ≡ memory_after (view_engine h) (advance None (length m)) m
     → Cycles e m k.engine n
 unfolding cycle
 cycled {h = h} {m = m} s d w =
     record {
-      is = played m (comes d) w ∙ ap (play (advance none (length m))) (s.is m);
-      size = same_size (view_engine h) (advance none (length m)) m w;
+      is = played m (comes d) w ∙ ap (play (advance None (length m))) (s.is m);
+      size = same_size (view_engine h) (advance None (length m)) m w;
       valid = d.valid;
     }

@@ -1,14 +1,14 @@
 -- A line's fetch by parts: refused by its checks, or taken with the numbers of its registers.
 use Prim.Native.Nat.{ℕ, ◌%◌}
 use mathlib.Core.Path.{◌≡◌, refl, sym, subst, ◌∙◌}
-use mathlib.Core.Option.{none, some}
-use mathlib.Core.List.{List}
+use Rattle.std.specs.Prelude.{None, Some}
 use Rattle.laws.proofs.Tests.{cond-ne}
 use Rattle.model.specs.Calls.{fetch, refusal}
 use Rattle.op.specs.declared.PipelineOp.{PipelineOp}
 use Rattle.op.specs.View.{view_op}
 use Rattle.config.specs.declared.Machine.{Machine}
 use Rattle.registers.specs.declared.RegisterTable.{RegisterTable}
+use Rattle.registers.specs.declared.Operands.{Operands}
 use Rattle.flight.specs.declared.pool.Decoded.{Decoded}
 use Rattle.flight.specs.declared.pool.Texts.{Texts}
 use Rattle.flight.specs.Pool.{decoded_of, texts_of}
@@ -40,7 +40,7 @@ module _ (w : Window) (ts : Tracks) (m : Machine) (t : RegisterTable) (o : Pipel
   pub refusing
       : (s : Sequencer) (us : Units) {n : ℕ} → (n ≡ 0 → ⊥)
       → ((e : Engine) → Valid (over (board_of s us) w ts m t e)
-      → refusal (view_engine (over (board_of s us) w ts m t e)) (fetch (view_op o) lent) ≡ some n)
+      → refusal (view_engine (over (board_of s us) w ts m t e)) (fetch (view_op o) lent) ≡ Some n)
       → Fetches (board_of s us) w ts m t o lent (record { board = s; table = t; place = 80; no = n }) ts
   unfolding numbered
   refusing s us {n} z h =
@@ -49,14 +49,14 @@ module _ (w : Window) (ts : Tracks) (m : Machine) (t : RegisterTable) (o : Pipel
         good = λ q. absurd (z q);
         next = λ q. absurd (z q);
         takes = λ q e v a y. absurd (z q);
-        refuses = λ q e v a y. settled-refused v (cond-ne none (some n) z ∙ sym (h e v)) y z refl;
+        refuses = λ q e v a y. settled-refused v (cond-ne None (Some n) z ∙ sym (h e v)) y z refl;
       }
 
   -- By what `taken` says, of every engine with these parts.
   pub taking
-      : {b : Board} {read written : List ℕ} {cycles : ℕ} {r : Intake} {us : Tracks} {after : RegisterTable}
-      → Takes (given b w ts read written m.instruction_bytes cycles o) lent r us
-      → ((e : Engine) → Valid (over b w ts m t e) → Holds (given b w ts read written m.instruction_bytes cycles o) (over b w ts m t e) after)
+      : {b : Board} {x : Operands} {cycles : ℕ} {r : Intake} {us : Tracks} {after : RegisterTable}
+      → Takes (given b w ts x m.instruction_bytes cycles o) lent r us
+      → ((e : Engine) → Valid (over b w ts m t e) → Holds (given b w ts x m.instruction_bytes cycles o) (over b w ts m t e) after)
       → Fetches b w ts m t o lent (record { board = r.board; table = after; place = r.place; no = r.no }) us
   taking {b} {after = after} k h =
       record {

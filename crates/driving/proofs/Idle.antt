@@ -2,7 +2,7 @@
 use mathlib.Core.Path.{◌≡◌, ap, sym, ◌∙◌}
 use mathlib.Core.Bool.{Bool, false, not}
 use native.Mathlib.Omega.{arith}
-use Rattle.laws.specs.Lists.{any}
+use Rattle.std.specs.List.{list_any}
 use Rattle.laws.proofs.Tests.{and_no, and-next}
 use Rattle.laws.proofs.Slices.{empty-yes, empty-no}
 use Rattle.model.specs.Units.{is_busy}
@@ -17,7 +17,7 @@ use Rattle.engine.specs.View.{legend_of, view_engine}
 
 module _ (b : Board) (k : BoardOk b) where
   pub queue-empty
-      : b.queue.len ≡ 0 → (r : Bool) → ((g : Legend) → r ≡ any is_busy (view_units g b.units)) → (e : Engine) → not r ≡ idle (view_engine (with_board b e))
+      : b.queue.len ≡ 0 → (r : Bool) → ((g : Legend) → r ≡ list_any is_busy (view_units g b.units)) → (e : Engine) → not r ≡ idle (view_engine (with_board b e))
   unfolding idle view_engine view_board
   queue-empty h r f e =
       ap not (f (legend_of e))

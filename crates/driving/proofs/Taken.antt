@@ -1,8 +1,7 @@
 -- A line that is taken: read, and fetched at the engine's address.
 use Prim.Native.Nat.{ℕ, suc, ◌+◌, ◌≤◌}
-use mathlib.Core.Path.{◌≡◌, refl, sym, ap, ap₂, ◌∙◌}
-use mathlib.Core.Bool.{true, false, not, false≢true}
-use mathlib.Core.Option.{Option, none, some}
+use mathlib.Core.Path.{◌≡◌, refl, sym, subst, ap, ap₂, ◌∙◌}
+use Rattle.std.specs.Prelude.{Option, None, Some}
 use mathlib.Core.List.{List}
 use native.Mathlib.Omega.{arith}
 use lib.ListN.{length, drop}
@@ -11,21 +10,8 @@ use Rattle.laws.specs.Texts.{Text}
 use Rattle.model.specs.Op.{Given}
 use Rattle.model.specs.State.{State}
 use Rattle.model.specs.Calls.{fetch, refused, done, refusal, reply, answer, memory_after}
-use Rattle.model.specs.Forecast.{
-  Line,
-  Run,
-  line_refused,
-  going,
-  first_line,
-  other_lines,
-  parse,
-  line_given,
-  lent_of,
-  play,
-  fetch_line,
-  take_fetched,
-  take_parsed,
-}
+use Rattle.model.specs.Forecast.{Line, Run, line_refused, going, first_line, other_lines, parse, line_given, lent_of, play, fetch_line, take_fetched, take_parsed}
+use Rattle.op.specs.declared.PipelineOp.{PipelineOp}
 use Rattle.op.specs.View.{view_op}
 use Rattle.lines.specs.declared.Read.{Read}
 use Rattle.lines.specs.Lines.{LineRead, Stands}
@@ -52,28 +38,33 @@ module _ (s : State) (m : List ℕ) (g : Given) (lent : ℕ) where
   fetch-told x n e t = go (numbered n) (refusal s (fetch g lent)) (sym t ∙ e)
     where
       go : (p o : Option ℕ) → when_some p done refused ≡ when_some o done refused → p ≡ o
-      go none none h = refl
-      go none (some k) h = cc
-      go (some n) none h = cc
-      go (some n) (some k) h = cc
+      go None None h = refl
+      go None (Some k) h = cc
+      go (Some n) None h = cc
+      go (Some n) (Some k) h = cc
 
 -- ── A line that was read ────────────────────────────────────────────────────
 
 module _ {input : Text} {from pc : ℕ} {r : Read} (l : LineRead input from pc r) where
-  unread : not r.form ≡ true → parse (first_line (drop from input)) ≡ none
+  unread : r.op ≡ None → parse (first_line (drop from input)) ≡ None
   unread h = go (parse (first_line (drop from input))) refl
     where
-      go : (o : Option Line) → parse (first_line (drop from input)) ≡ o → o ≡ none
-      go none q = refl
-      go (some x) q = absurd (false≢true (sym (ap not (l.is_form x q).0) ∙ h))
+      go : (o : Option Line) → parse (first_line (drop from input)) ≡ o → o ≡ None
+      go None q = refl
+      go (Some x) q = absurd (let w = (l.is_form x q).1 in cc)
 
   -- By the line, where it has the form.
-  by-line : (C : Type 0) → not r.form ≡ false → ((x : Line) → parse (first_line (drop from input)) ≡ some x → Stands (line_given x pc) r.op → C) → C
-  by-line C h f = go (parse (first_line (drop from input))) refl
+  by-line
+      : (C : Type 0) {o : PipelineOp} → r.op ≡ Some o
+      → ((x : Line) → parse (first_line (drop from input)) ≡ Some x → Stands (line_given x pc) o → C) → C
+  by-line C {o} h f = go (parse (first_line (drop from input))) refl
     where
-      go : (o : Option Line) → parse (first_line (drop from input)) ≡ o → C
-      go none q = absurd (false≢true (sym h ∙ ap not (l.no_form q)))
-      go (some x) q = f x q (l.is_form x q).1
+      same : {p : PipelineOp} → r.op ≡ Some p → p ≡ o
+      same w = cc
+
+      go : (y : Option Line) → parse (first_line (drop from input)) ≡ y → C
+      go None q = absurd (let w = l.no_form q in cc)
+      go (Some x) q = let w = l.is_form x q in f x q (subst (Stands (line_given x pc)) (same w.1) w.2)
 
 module _ (input : Text) (from lines : ℕ) (r : Read) (e : Engine) (m : List ℕ) (read : LineRead input from e.board.fetch_pc r)
     (h : lines ≤ from) where
@@ -92,7 +83,7 @@ module _ (input : Text) (from lines : ℕ) (r : Read) (e : Engine) (m : List ℕ
   one_more : lines + 1 ≡ suc lines
   one_more = omega arith
 
-  pub no_line : Valid e → not r.form ≡ true
+  pub no_line : Valid e → r.op ≡ None
       → Goes input (taking (parse (first_line (drop from input)))) (record { engine = pipeline e; at = r.next; lines = lines + 1; stands = 2; number = 14 }) m
   unfolding take_parsed view_run run_by
   no_line v f =
@@ -103,24 +94,24 @@ module _ (input : Text) (from lines : ℕ) (r : Read) (e : Engine) (m : List ℕ
         lines = omega (arith, l.on, h);
       }
 
-  module _ {k : Next} {n : List ℕ} (d : Does e (fetch (view_op r.op) (length m)) k)
-      (w : n ≡ memory_after (view_engine e) (fetch (view_op r.op) (length m)) m) (f : not r.form ≡ false) (number : ℕ) (t : Tells number k.answer) where
-    told_of : numbered number ≡ refusal (view_engine e) (fetch (view_op r.op) (length m))
-    told_of = fetch-told (view_engine e) m (view_op r.op) (length m) k.answer number (d.answer m) t
+  module _ {k : Next} {n : List ℕ} {o : PipelineOp} (f : r.op ≡ Some o) (d : Does e (fetch (view_op o) (length m)) k)
+      (w : n ≡ memory_after (view_engine e) (fetch (view_op o) (length m)) m) (number : ℕ) (t : Tells number k.answer) where
+    told_of : numbered number ≡ refusal (view_engine e) (fetch (view_op o) (length m))
+    told_of = fetch-told (view_engine e) m (view_op o) (length m) k.answer number (d.answer m) t
 
     pub refused-line : (number ≡ 0 → ⊥)
         → Goes input (taking (parse (first_line (drop from input)))) (record { engine = pipeline k.engine; at = r.next; lines = lines + 1; stands = 2; number = number }) n
     unfolding take_parsed take_fetched fetch_line view_run run_by
     refused-line z =
-        let o = some_number told_of z in
-        let kept = memory_kept (view_engine e) (fetch (view_op r.op) (length m)) m o in
+        let some = some_number told_of z in
+        let kept = memory_kept (view_engine e) (fetch (view_op o) (length m)) m some in
         record {
           is =
               by-line l _ f
               (λ x p u.
               let g = line_given x (view_engine e).front.fetch_pc in
-              let alike = fetched-alike (view_engine e) (length m) g r.op u in
-              ap₂ (λ i c. line_refused i number c) one_more (w ∙ sym kept) ∙ sym (ap (fetching g) (sym alike.refused ∙ o)) ∙ sym (ap taking p));
+              let alike = fetched-alike (view_engine e) (length m) g o u in
+              ap₂ (λ i c. line_refused i number c) one_more (w ∙ sym kept) ∙ sym (ap (fetching g) (sym alike.refused ∙ some)) ∙ sym (ap taking p));
           valid = d.valid;
           at = l.most;
           lines = omega (arith, l.on, h);
@@ -130,14 +121,14 @@ module _ (input : Text) (from lines : ℕ) (r : Read) (e : Engine) (m : List ℕ
         → Goes input (taking (parse (first_line (drop from input)))) (record { engine = pipeline k.engine; at = r.next; lines = lines + 1; stands = 0; number = 0 }) n
     unfolding take_parsed take_fetched fetch_line view_run run_by
     fetched-line z =
-        let o = no_number told_of z in
+        let none = no_number told_of z in
         record {
           is =
               by-line l _ f
               (λ x p u.
               let g = line_given x (view_engine e).front.fetch_pc in
-              let alike = fetched-alike (view_engine e) (length m) g r.op u in
-              let free = sym alike.refused ∙ o in
+              let alike = fetched-alike (view_engine e) (length m) g o u in
+              let free = sym alike.refused ∙ none in
               let same = ap (λ y. play (fetch y (length m)) (lent_of (view_engine e) m)) (alike.taken free) in
               ap₂ (λ y i. going (lent_of (view_engine k.engine) n) y i) l.others one_more
               ∙ ap (λ y. going y (other_lines (drop from input)) (suc lines)) (played m (comes d) w ∙ same)

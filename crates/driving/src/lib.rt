@@ -24,7 +24,7 @@ use config::{Machine, PipelineShape, PipelineTiming, StageSpec, UnitSpec};
 use fetching::{row_of, taken};
 use flight::pool::{Decoded, Texts};
 use offering::retired;
-use op::{MaybeNumber, PipelineOp};
+use op::PipelineOp;
 use registers::RegisterTable;
 use scoreboard::ScoreboardPipeline;
 use timeline::Window;
@@ -63,7 +63,7 @@ pub fn forecast_shape() -> PipelineShape
     PipelineShape {
         stages,
         stages_len: 3,
-        instruction_bytes: MaybeNumber::Nothing,
+        instruction_bytes: None,
         timing,
         units: [unit; 16],
         units_len: 1,
@@ -77,11 +77,7 @@ fn is_idle(board: Sequencer, us: &[[u8; 40]], ss: &[u64], n: usize) -> bool
     requires board_ok { BoardOk (board_of board (units_of us.now ss.now n)) }
     ensures { (e : Engine) → result ≡ idle (view_engine (with_board (board_of board (units_of us.now ss.now n)) e)) }
 {
-    if board.queue.len == 0 {
-        !stepping::any_busy(us, ss, n)
-    } else {
-        false
-    }
+    board.queue.len == 0 && !stepping::any_busy(us, ss, n)
 }
 
 // A start and a retire. Either may be refused, and leaves the board as it is: a start while a cycle is open, a retire where nothing is on offer.
@@ -137,7 +133,7 @@ fn cycle(
         machine,
         known,
         held,
-        MaybeNumber::Nothing,
+        None,
         cells,
     )
 }
@@ -182,19 +178,15 @@ fn fetch(
             no: first,
         };
     }
-    let x = table.resolve(op);
-    if !x.fits {
+    let mut names = table;
+    let Some(operands) = names.resolve(&op) else {
         return Fetched {
             board,
             table,
             place: 80,
             no: 10,
         };
-    }
-    let sources = x.sources;
-    let destinations = x.destinations;
-    let fixed = machine.instruction_bytes;
-    let class = op.class;
+    };
     let t = taken(
         board,
         us,
@@ -205,27 +197,23 @@ fn fetch(
         window.next,
         window.held,
         window.history,
-        sources,
-        destinations,
-        fixed,
-        machine.latency(class),
+        operands,
+        machine.instruction_bytes,
+        machine.latency(op.class),
         op,
         cells,
     );
-    let after = t.board;
-    let known = x.table;
     Fetched {
-        board: after,
-        table: known,
+        board: t.board,
+        table: names,
         place: t.place,
         no: t.no,
     }
 }
 
-// So many turns at most: the fuel is never the reason to stop. It ends when the lines are used up and nothing is in flight, or where a line is refused,
-// and leaves no fuel then; a line is read only when an invitation takes it. The engine's parts are variables of the loop, its units and tracks lent
-// from arrays here, and what a fetch puts at its place and in its row is set here, so that what a call does not work on stays where it is
-// (docs/DECISIONS.md, 57).
+// So many turns at most: the fuel is never the reason to stop. It ends when the lines are used up and nothing is in flight, or where a line is refused;
+// a line is read only when an invitation takes it. The engine's parts are variables of the loop, its units and tracks lent from arrays here, and what a
+// fetch puts at its place and in its row is set here, so that what a call does not work on stays where it is (docs/DECISIONS.md, 57).
 // model: Forecast.forecast_run, turn, cycle_and_line, take_parsed, fuel_for
 pub fn run(engine: ScoreboardPipeline, input: &[u8], cells: &mut [u8]) -> Going
     requires valid { Valid (parts engine) }
@@ -253,62 +241,52 @@ pub fn run(engine: ScoreboardPipeline, input: &[u8], cells: &mut [u8]) -> Going
     let mut lines: u64 = 0;
     let mut stands: u8 = 0;
     let mut number: u8 = 0;
-    let mut fuel = 100 * (input.len() + 1);
-    while 0 < fuel {
-        fuel -= 1;
+    for _turn in 0..100 * (input.len() + 1) {
         if at == input.len() && is_idle(board, &us, &ss, n) {
             stands = 1;
-            fuel = 0;
-        } else {
-            let r = cycle(
-                board,
-                &mut us,
-                &mut ss,
-                n,
-                &mut ts,
-                &mut fs,
-                window,
-                machine,
-                table.known,
-                table.held,
-                cells,
-            );
-            board = r.board;
-            table.known = r.known;
-            table.held = r.held;
-            if board.front.invited && at < input.len() {
-                let read = lines::read_line(input, at, board.fetch_pc);
-                at = read.next;
-                lines += 1;
-                if !read.form {
-                    stands = 2;
-                    number = 14;
-                    fuel = 0;
-                } else {
-                    let op = read.op;
-                    let t = fetch(
-                        board, &us, &ss, n, &mut ts, &mut fs, window, machine, table, op, cells,
-                    );
-                    board = t.board;
-                    if t.no != 0 {
-                        stands = 2;
-                        number = t.no;
-                        fuel = 0;
-                    } else {
-                        table = t.table;
-                        let place = t.place;
-                        let s = window.slot(window.next);
-                        let d = Decoded::of(op, board.fetch_pc);
-                        let x = Texts::of(op);
-                        let y = row_of(op);
-                        decoded.items[place] = d;
-                        texts.items[place] = x;
-                        rows.items[s] = y;
-                        window = window.opened();
-                    }
-                }
-            }
+            break;
         }
+        let r = cycle(
+            board,
+            &mut us,
+            &mut ss,
+            n,
+            &mut ts,
+            &mut fs,
+            window,
+            machine,
+            table.known,
+            table.held,
+            cells,
+        );
+        board = r.board;
+        table.known = r.known;
+        table.held = r.held;
+        if !board.front.invited || at == input.len() {
+            continue;
+        }
+        let read = lines::read_line(input, at, board.fetch_pc);
+        at = read.next;
+        lines += 1;
+        let Some(op) = read.op else {
+            stands = 2;
+            number = 14;
+            break;
+        };
+        let t = fetch(
+            board, &us, &ss, n, &mut ts, &mut fs, window, machine, table, op, cells,
+        );
+        board = t.board;
+        if t.no != 0 {
+            stands = 2;
+            number = t.no;
+            break;
+        }
+        table = t.table;
+        decoded.items[t.place] = Decoded::of(&op, board.fetch_pc);
+        texts.items[t.place] = Texts::of(&op);
+        rows.items[window.slot(window.next)] = row_of(op);
+        window.open();
     }
     let b = board.board(slots::gathered(&us, &ss, n));
     let gathered = tracks::gathered(&ts, &fs);

@@ -2,7 +2,7 @@
 use Prim.Native.Nat.{ℕ, ◌≤◌, ◌<◌}
 use mathlib.Core.Path.{◌≡◌, refl, sym, ap, ap₂, ◌∙◌}
 use mathlib.Core.Bool.{Bool, true, false, cond}
-use mathlib.Core.Option.{none, some}
+use Rattle.std.specs.Prelude.{None, Some, Ok, Err}
 use mathlib.Core.List.{List}
 use native.Mathlib.Nat.{zero-add}
 use native.Mathlib.Omega.{arith}
@@ -11,62 +11,18 @@ use lib.ListN.{length, take, drop, replicate, length-replicate}
 use lib.Seq.{take_at, length-take-le}
 use borrow.Author.Tests.{lt-ltb, le-ltb}
 use Rattle.laws.specs.Optional.{when_some}
-use Rattle.laws.specs.Lists.{any}
+use Rattle.std.specs.List.{list_any}
 use Rattle.laws.specs.Texts.{Text, bytes, utf8}
 use Rattle.laws.proofs.Tests.{cond-lt, cond-ge, when_some-some, when_some-none}
 use Rattle.model.specs.Config.{PipelineShape, at_least_one, specs_or_generic, capacities}
 use Rattle.model.specs.Timeline.{overlay, splice, write_all}
 use Rattle.model.specs.Requests.{short_for, buffer_with}
-use Rattle.model.specs.Calls.{
-  overlap,
-  first_of,
-  too_big,
-  bad_byte,
-  bad_text,
-  bad_spec_name,
-  extra_overflows,
-  make_checks,
-  make_refusal,
-  after,
-  memory_after,
-  make,
-  make_memory,
-  refusal,
-  checks,
-  sets,
-  made,
-  no_machine,
-}
+use Rattle.model.specs.Calls.{overlap, first_of, too_big, bad_byte, bad_text, bad_spec_name, extra_overflows, make_checks, make_refusal, after, memory_after, make, make_memory, refusal, checks, sets, made, no_machine}
 use Rattle.model.specs.State.{new}
-use Rattle.model.specs.Forecast.{
-  Forecast,
-  Run,
-  not_made,
-  line_refused,
-  going,
-  not_written,
-  lent_of,
-  play,
-  forecast_shape,
-  forecast_run,
-  fuel_for,
-  excess,
-  forecast_made,
-  forecast_of,
-  printed,
-  cells_left,
-  forecast,
-  forecast_memory,
-  forecast_checks,
-  forecast_refusal,
-  forecast_answer,
-  forecast_out,
-}
-use Rattle.model.specs.Forecast.{written as model-written}
+use Rattle.model.specs.Forecast.{Forecast, Run, not_made, line_refused, going, not_written, lent_of, play, forecast_shape, forecast_run, fuel_for, excess, forecast_made, forecast_of, printed, cells_left, forecast, forecast_memory, forecast_checks, forecast_refusal, forecast_answer, forecast_out, written as model-written}
 use Rattle.timeline.proofs.Memory.{overlay-parts}
-use Rattle.traces.specs.declared.texts.Written.{Written}
-use Rattle.traces.specs.declared.texts.Written.TheVariants.{Bytes, Refused}
-use Rattle.traces.specs.Texts.{Laid, written, Wrote}
+use Rattle.capability.specs.declared.Refusal.TheVariants.{ShortMemory}
+use Rattle.traces.specs.Texts.{Laid, Written, written, Wrote}
 use Rattle.scoreboard.specs.declared.Next.{Next}
 use Rattle.scoreboard.specs.View.{view_engine}
 use Rattle.scoreboard.specs.Calls.{Makes, Does}
@@ -78,12 +34,12 @@ use Rattle.forecasting.proofs.Runs.{run-cells}
 -- ── Making ──────────────────────────────────────────────────────────────────
 
 -- Only short cells are refused.
-shape-refusal : (n : ℕ) → make_refusal forecast_shape n ≡ cond (ltb n 51200) (some 13) none
-unfolding make_refusal make_checks first_of too_big bad_byte bad_text bad_spec_name extra_overflows any capacities specs_or_generic
+shape-refusal : (n : ℕ) → make_refusal forecast_shape n ≡ cond (ltb n 51200) (Some 13) None
+unfolding make_refusal make_checks first_of too_big bad_byte bad_text bad_spec_name extra_overflows capacities specs_or_generic
     at_least_one forecast_shape bytes utf8
 shape-refusal n = refl
 
-pub shape-made : (n : ℕ) → 51200 ≤ n → make_refusal forecast_shape n ≡ none
+pub shape-made : (n : ℕ) → 51200 ≤ n → make_refusal forecast_shape n ≡ None
 shape-made n h = shape-refusal n ∙ cond-ge _ _ h
 
 module _ (input cells : List ℕ) where
@@ -124,12 +80,12 @@ module _ (input cells : List ℕ) where
 
 -- ── Answers ─────────────────────────────────────────────────────────────────
 
-answer-by : (b : Bool) (n : ℕ) → answered (cond b (Refused 13) (Bytes n)) ≡ when_some (cond b (some 13) none) (model-written n) not_written
+answer-by : (b : Bool) (n : ℕ) → answered (cond b (Err ShortMemory) (Ok (Some n))) ≡ when_some (cond b (Some 13) None) (model-written n) not_written
 unfolding answered
 answer-by true n = refl
 answer-by false n = refl
 
-out-by : (b : Bool) (t lent : List ℕ) → cond b lent (overlay t lent) ≡ when_some (cond b (some 13) none) (overlay t lent) (λ (r : ℕ). lent)
+out-by : (b : Bool) (t lent : List ℕ) → cond b lent (overlay t lent) ≡ when_some (cond b (Some 13) None) (overlay t lent) (λ (r : ℕ). lent)
 out-by true t lent = refl
 out-by false t lent = refl
 
@@ -149,18 +105,18 @@ module _ (input cells out : List ℕ) where
   )
 
   module _ (h : 51200 ≤ length cells) where
-    refusal_is : forecast_refusal input cells out ≡ cond (ltb (length out) (length (forecast input cells))) (some 13) none
+    refusal_is : forecast_refusal input cells out ≡ cond (ltb (length out) (length (forecast input cells))) (Some 13) None
     unfolding forecast_refusal forecast_checks first_of
     refusal_is = cond-ge _ _ h
 
-    answer-is : {w : Written} {out' : List ℕ} → Wrote (some (forecast input cells)) out out' w → answered w ≡ forecast_answer input cells out
+    answer-is : {w : Written} {out' : List ℕ} → Wrote (Some (forecast input cells)) out out' w → answered w ≡ forecast_answer input cells out
     unfolding forecast_answer written
     answer-is w =
         ap answered w.is
         ∙ answer-by (ltb (length out) (length (forecast input cells))) (length (forecast input cells))
         ∙ sym (ap (λ o. when_some o (model-written (length (forecast input cells))) not_written) refusal_is)
 
-    out-is : {w : Written} {out' : List ℕ} → Wrote (some (forecast input cells)) out out' w → out' ≡ forecast_out input cells out
+    out-is : {w : Written} {out' : List ℕ} → Wrote (Some (forecast input cells)) out out' w → out' ≡ forecast_out input cells out
     unfolding forecast_out short_for buffer_with
     out-is w =
         w.buffer
@@ -168,11 +124,11 @@ module _ (input cells out : List ℕ) where
         ∙ sym (ap (λ o. when_some o (overlay (forecast input cells) out) (λ (r : ℕ). out)) refusal_is)
 
     pub told : {run : Run} {t : Text} {w : Written} {r : Forecast} {cells' out' : List ℕ} → forecast_of input cells ≡ run → t ≡ printed run
-        → Wrote (some t) out out' w → r ≡ answered w → cells' ≡ cells_left run → Told r cells' out'
+        → Wrote (Some t) out out' w → r ≡ answered w → cells' ≡ cells_left run → Told r cells' out'
     unfolding forecast forecast_memory
     told {run} {t} {w} {r} {cells'} {out'} e p k a m =
         let f : t ≡ forecast input cells = p ∙ sym (ap printed e) in
-        let v : Wrote (some (forecast input cells)) out out' w = rw (sym f) k in
+        let v : Wrote (Some (forecast input cells)) out out' w = rw (sym f) k in
         (a ∙ answer-is v, (m ∙ sym (ap cells_left e), out-is v))
 
 -- ── The page ────────────────────────────────────────────────────────────────

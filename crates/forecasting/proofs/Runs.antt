@@ -17,11 +17,11 @@ use Rattle.driving.specs.Runs.{run_by, view_run}
 use Rattle.pages.proofs.Lengths.{decimal-most}
 
 module _ (input : Text) (g : Going) (m : List ℕ) where
-  refused-by : (k : ℕ) → (k ≡ 0 → ⊥) → (k ≡ 1 → ⊥) → run_by k input g m ≡ line_refused g.lines g.number m
+  refused-by : (k : ℕ) → 2 ≤ k → run_by k input g m ≡ line_refused g.lines g.number m
   unfolding run_by
-  refused-by zero h i = absurd (h refl)
-  refused-by (suc zero) h i = absurd (i refl)
-  refused-by (suc (suc k)) h i = refl
+  refused-by zero h = absurd (let z : ⊥ = omega arith in z)
+  refused-by (suc zero) h = absurd (let z : ⊥ = omega arith in z)
+  refused-by (suc (suc k)) h = refl
 
   left_by : (k : ℕ) → cells_left (run_by k input g m) ≡ m
   unfolding run_by cells_left
@@ -37,9 +37,9 @@ module _ (input : Text) (g : Going) (m : List ℕ) where
   unfolding view_run run_by printed
   none-printed h = ap (λ k. printed (run_by k input g m)) h
 
-  pub refused-printed : (g.stands ≡ 0 → ⊥) → (g.stands ≡ 1 → ⊥) → printed (view_run input g m) ≡ refused_text g.lines g.number
+  pub refused-printed : 2 ≤ g.stands → printed (view_run input g m) ≡ refused_text g.lines g.number
   unfolding view_run printed
-  refused-printed h i = ap printed (refused-by g.stands h i)
+  refused-printed h = ap printed (refused-by g.stands h)
 
   pub rows-printed : g.stands ≡ 1
       → printed (view_run input g m)

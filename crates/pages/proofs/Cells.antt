@@ -1,22 +1,25 @@
 -- A cell by what a view shows, and cells one behind the other.
 use Prim.Native.Nat.{ℕ, ◌+◌, ◌*◌, ◌≤◌}
 use mathlib.Core.Path.{◌≡◌, refl, sym, ap, ap₂, ◌∙◌}
-use mathlib.Core.Bool.{Bool, false, cond}
-use mathlib.Core.Option.{Option, none, some}
-use mathlib.Core.List.{List, [], ◌∷◌, ◌++◌, append-nil}
+use mathlib.Core.Bool.{Bool, true, false, cond}
+use Rattle.std.specs.Prelude.{Option, None, Some, Result, Ok, Err, option_map}
+use mathlib.Core.List.{List, [], ◌++◌, append-nil}
 use native.Mathlib.Numerals.{add-one}
-use types.Run.{OneOf, miss}
-use denote.Enum.Declared.{tag_of}
-use lib.Dec.{ltb}
+use denote.Enum.Bare.{sameb}
+use lib.Dec.{eqb, ltb}
 use lib.ListN.{length}
 use borrow.Author.Tests.{le-ltb}
-use Rattle.laws.specs.Optional.{value_or, when_some, omap}
+use Rattle.std.specs.Result.{result_unwrap_or}
+use Rattle.laws.specs.Optional.{value_or, when_some}
 use Rattle.laws.specs.Texts.{Text, bytes}
-use Rattle.laws.proofs.Tests.{cond-eq, cond-ne, and-no-second}
+use Rattle.laws.proofs.Tests.{and-no-second}
+use Rattle.capability.specs.declared.PipelineTimelineState.{PipelineTimelineState}
+use Rattle.capability.specs.declared.PipelineTimelineState.TheVariants as cell
+use Rattle.capability.specs.contracts.PipelineTimelineState.{the_type}
 use Rattle.capability.specs.Numbers.{state_number}
 use Rattle.model.specs.Config.{UnitSpec}
 use Rattle.model.specs.Timeline.{Row, cell_at}
-use Rattle.model.specs.Views.{CellView, cell_view}
+use Rattle.model.specs.Views.{cell_view}
 use Rattle.model.specs.Requests.{label_text}
 use Rattle.model.specs.Calls.{Answer, refused, shown_cell, first_of}
 use Rattle.model.specs.State.{State, state, marks, offer_of, front_of, log_of, no_stats}
@@ -25,9 +28,7 @@ use Rattle.config.specs.declared.Machine.{Machine}
 use Rattle.config.specs.View.{view_machine}
 use Rattle.config.specs.Kept.{MachineOk}
 use Rattle.timeline.specs.declared.cells.PipelineTimelineCell.{PipelineTimelineCell}
-use Rattle.timeline.specs.declared.cells.MaybeCell.{MaybeCell}
-use Rattle.timeline.specs.declared.cells.MaybeCell.TheVariants as maybe
-use Rattle.timeline.specs.contracts.cells.MaybeCell as maybe-cell
+use Rattle.capability.specs.declared.Refusal.{Refusal}
 use Rattle.timeline.specs.Cells.{view_cell, cell_reply, cell_answer}
 use Rattle.traces.specs.Texts.{Laid}
 use Rattle.traces.proofs.Written.{laid_next}
@@ -41,47 +42,57 @@ shown-byte : (ks : List UnitSpec) (b : ℕ) → shown_text ks (cell_view b) ≡ 
 unfolding shown_text cell_text is_stalled cell_view
 shown-byte ks b = refl
 
-module _ (ks : List UnitSpec) (c : PipelineTimelineCell) {n : ℕ} (e : n ≡ state_number c.state) where
+-- A state compared with Stalled, as the code and as the model compares it.
+same-number : (s : PipelineTimelineState) → sameb the_type s cell.Stalled ≡ eqb (state_number s) (state_number cell.Stalled)
+unfolding state_number
+same-number cell.Empty = refl
+same-number cell.Active = refl
+same-number cell.Speculative = refl
+same-number cell.Stalled = refl
+same-number cell.Bubble = refl
+same-number cell.Flushed = refl
+
+module _ (ks : List UnitSpec) (c : PipelineTimelineCell) {b : Bool} (e : b ≡ sameb the_type c.state cell.Stalled) where
   abbrev name : Text
   name = value_or [] (label_text ks c.label)
 
-  pub stalled-parts : n ≡ 3 → bytes " " ++ (name ++ bytes "*") ≡ shown_text ks (view_cell c)
-  unfolding shown_text view_cell state_number
-  stalled-parts q = ap (λ t. bytes " " ++ (name ++ t)) (sym (cond-eq (bytes "*") [] (sym e ∙ q)))
+  starred : bytes " " ++ (name ++ cond b (bytes "*") []) ≡ shown_text ks (view_cell c)
+  unfolding shown_text view_cell
+  starred = ap (λ q. bytes " " ++ (name ++ cond q (bytes "*") [])) (e ∙ same-number c.state)
 
-  pub plain-parts : (n ≡ 3 → ⊥) → bytes " " ++ name ≡ shown_text ks (view_cell c)
-  unfolding shown_text view_cell state_number
-  plain-parts q = ap (λ t. bytes " " ++ t) (sym (append-nil name)) ∙ ap (λ t. bytes " " ++ (name ++ t)) (sym (cond-ne (bytes "*") [] (λ z. q (e ∙ z))))
+  pub stalled-parts : b ≡ true → bytes " " ++ (name ++ bytes "*") ≡ shown_text ks (view_cell c)
+  stalled-parts q = ap (λ q. bytes " " ++ (name ++ cond q (bytes "*") [])) (sym q) ∙ starred
+
+  pub plain-parts : b ≡ false → bytes " " ++ name ≡ shown_text ks (view_cell c)
+  plain-parts q =
+      ap (λ t. bytes " " ++ t) (sym (append-nil name)) ∙ ap (λ q. bytes " " ++ (name ++ cond q (bytes "*") [])) (sym q) ∙ starred
 
 -- by whether it is refused
 abbrev reply-by : Answer → Bool → Answer
-reply-by a b = when_some (cond b (some 13) none) a refused
+reply-by a b = when_some (cond b (Some 13) None) a refused
+
+-- What is put of a cell, where there is one.
+abbrev pub shown_or_none : List UnitSpec → Option PipelineTimelineCell → Text
+shown_or_none ks o = when_some o [] (λ (c : PipelineTimelineCell). shown_text ks (view_cell c))
 
 -- What the code found in a memory that is long enough.
 module _ (ks : List UnitSpec) (h : ℕ) (r : Row) (m : List ℕ) (i : ℕ) (room : h * 200 ≤ length m) where
-  long-reply : cell_reply h r m i ≡ shown_cell (omap cell_view (cell_at h r m i))
+  long-reply : cell_reply h r m i ≡ shown_cell (option_map cell_view (cell_at h r m i))
   unfolding cell_reply first_of
-  long-reply = ap (reply-by (shown_cell (omap cell_view (cell_at h r m i)))) (and-no-second (ltb i r.count) (le-ltb (length m) (h * 200) room))
+  long-reply = ap (reply-by (shown_cell (option_map cell_view (cell_at h r m i)))) (and-no-second (ltb i r.count) (le-ltb (length m) (h * 200) room))
 
-  text-of-some : (o : Option ℕ) (v : CellView) → shown_cell (some v) ≡ shown_cell (omap cell_view o) → shown_text ks v ≡ when_some o [] (cell_text ks)
-  text-of-some none v e = cc
-  text-of-some (some b) v e = let q : v ≡ cell_view b = cc in ap (shown_text ks) q ∙ shown-byte ks b
-
-  text-of-none : (o : Option ℕ) → shown_cell none ≡ shown_cell (omap cell_view o) → when_some o [] (cell_text ks) ≡ []
-  text-of-none none e = refl
-  text-of-none (some b) e = cc
-
-  pub found-cell : {f : MaybeCell} {c : PipelineTimelineCell} → cell_answer f ≡ cell_reply h r m i → f ≡ maybe.Some c
-      → shown_text ks (view_cell c) ≡ when_some (cell_at h r m i) [] (cell_text ks)
+  found-by : (f : Result (Option PipelineTimelineCell) Refusal) (o : Option ℕ) → cell_answer f ≡ shown_cell (option_map cell_view o)
+      → shown_or_none ks (result_unwrap_or f None) ≡ when_some o [] (cell_text ks)
   unfolding cell_answer
-  found-cell {f} {c} a e = text-of-some (cell_at h r m i) (view_cell c) (sym (ap cell_answer e) ∙ a ∙ long-reply)
+  found-by (Ok (Some c)) None e = cc
+  found-by (Ok (Some c)) (Some b) e = let q : view_cell c ≡ cell_view b = cc in ap (shown_text ks) q ∙ shown-byte ks b
+  found-by (Ok None) None e = refl
+  found-by (Ok None) (Some b) e = cc
+  found-by (Err k) o e = cc
 
-  pub no_cell : (f : MaybeCell) → cell_answer f ≡ cell_reply h r m i → OneOf (1 ∷ 2 ∷ []) (tag_of maybe-cell.the_type f)
-      → when_some (cell_at h r m i) [] (cell_text ks) ≡ []
-  unfolding cell_answer
-  no_cell (maybe.Some c) a o = absurd (miss (1 ∷ 2 ∷ []) 0 tt o)
-  no_cell maybe.Nothing a o = text-of-none (cell_at h r m i) (a ∙ long-reply)
-  no_cell (maybe.Refused k) a o = let z : refused k ≡ shown_cell (omap cell_view (cell_at h r m i)) = a ∙ long-reply in cc
+  pub found-cell : (f : Result (Option PipelineTimelineCell) Refusal) {g : Option PipelineTimelineCell} → cell_answer f ≡ cell_reply h r m i → g ≡ result_unwrap_or f None
+      → shown_or_none ks g ≡ when_some (cell_at h r m i) [] (cell_text ks)
+  found-cell f a e = ap (shown_or_none ks) e ∙ found-by f (cell_at h r m i) (a ∙ long-reply)
 
 -- ── For every engine of a machine ───────────────────────────────────────────
 
@@ -92,8 +103,8 @@ LaidOf k p t m out n = (s : State) → s.machine ≡ view_machine k → Laid p (
 -- There is such an engine.
 abbrev some-engine : Machine → State
 some-engine k =
-    state (view_machine k) [] [] [] [] (marks false false) (offer_of none false) (front_of false false false false false 0 0 0)
-    (log_of no_stats [] [] none)
+    state (view_machine k) [] [] [] [] (marks false false) (offer_of None false) (front_of false false false false false 0 0 0)
+    (log_of no_stats [] [] None)
 
 pub engine-labels : {k : Machine} → MachineOk k → (s : State) → s.machine ≡ view_machine k → ShortLabels s.machine.specs
 engine-labels ok s e = rw e (short-labels ok)

@@ -1,25 +1,22 @@
 -- Texts laid in a page, one behind the other.
 use Prim.Native.Nat.{ℕ, zero, suc, ◌+◌, ◌-◌, ◌≤◌}
-use mathlib.Core.Path.{◌≡◌, refl, sym, ap, subst, ◌∙◌}
-use mathlib.Core.Option.{Option, none, some}
+use mathlib.Core.Path.{◌≡◌, refl, sym, ap, ◌∙◌}
+use Rattle.std.specs.Prelude.{Option, None, Some, Ok, option_map}
 use mathlib.Core.List.{List, [], ◌∷◌}
 use native.Mathlib.Nat.{add-zero}
 use native.Mathlib.Omega.{arith}
-use types.Run.{OneOf, miss}
-use denote.Enum.Declared.{tag_of}
 use lib.ListN.{length, take, drop, length-drop}
 use lib.Seq.{take_at, take_all}
+use Rattle.std.specs.Option.{unwrap_or}
+use Rattle.std.specs.Result.{result_unwrap_or}
 use Rattle.laws.specs.Optional.{value_or}
 use Rattle.laws.specs.Texts.{Text}
 use Rattle.laws.proofs.Tests.{cond-ge}
 use Rattle.model.specs.Timeline.{overlay, splice}
 use Rattle.model.specs.Requests.{short_for, buffer_with}
 use Rattle.timeline.proofs.Memory.{overlay-parts, splice-length}
-use Rattle.traces.specs.declared.texts.Written.{Written}
-use Rattle.traces.specs.declared.texts.Written.TheVariants.{Bytes, Nothing}
 use Rattle.traces.specs.declared.texts.Digits.{Digits}
-use Rattle.traces.specs.contracts.texts.Written as written-enum
-use Rattle.traces.specs.Texts.{Laid, written, Wrote, IsDigits}
+use Rattle.traces.specs.Texts.{Laid, Written, written, Wrote, IsDigits}
 
 splice-none : (p : ℕ) (m : List ℕ) → splice p [] m ≡ m
 unfolding splice overlay
@@ -51,34 +48,35 @@ module _ {p n : ℕ} {s : Text} {m out : List ℕ} where
 
 -- ── Digits ──────────────────────────────────────────────────────────────────
 
-module _ {d : Digits} {t : Text} (i : IsDigits d t) where
-  -- The part of the array from the first digit on.
-  pub digits-part : take (20 - d.at) (drop d.at d.bytes) ≡ t
-  digits-part =
-      let all : length (drop d.at d.bytes) ≤ 20 - d.at = simp length-drop (omega (arith, i.size)) in
-      take_all _ _ all ∙ i.is
+-- The part of the array from the first digit on.
+pub digits-part : {d : Digits} {t : Text} → IsDigits d t → take (length d.bytes - d.at) (drop d.at d.bytes) ≡ t
+digits-part {d} i =
+    let all : length (drop d.at d.bytes) ≤ length d.bytes - d.at = simp length-drop (omega arith) in
+    take_all _ _ all ∙ i.is
 
 -- ── What was written to a buffer that is long enough ────────────────────────
 
-module _ {lent out : List ℕ} where
+wrote_all : (t : Option Text) {lent out : List ℕ} {r : Written} → length (value_or [] t) ≤ length lent → Wrote t lent out r → r ≡ Ok (option_map length t)
+unfolding written
+wrote_all None h w = w.is
+wrote_all (Some t) h w = w.is ∙ cond-ge _ _ h
+
+count-by : (t : Option Text) → unwrap_or (option_map length t) 0 ≡ length (value_or [] t)
+count-by None = refl
+count-by (Some t) = refl
+
+front-by : (t : Option Text) {lent out : List ℕ} {r : Written} {n : ℕ} → length (value_or [] t) ≤ length lent → Wrote t lent out r
+    → n ≡ length (value_or [] t) → take n out ≡ value_or [] t
+unfolding short_for buffer_with
+front-by None {out = out} h w e = ap (λ k. take k out) e
+front-by (Some t) {lent} {n = n} h w e =
+    ap (take n) (w.buffer ∙ cond-ge _ _ h ∙ overlay-parts t lent h) ∙ take_at t (drop (length t) lent) n (sym e)
+
+module _ (t : Option Text) {lent out : List ℕ} {r : Written} (h : length (value_or [] t) ≤ length lent) (w : Wrote t lent out r) {u : Option ℕ} {n : ℕ}
+    (e : u ≡ result_unwrap_or r None) (q : n ≡ unwrap_or u 0) where
+  pub wrote_count : n ≡ length (value_or [] t)
+  wrote_count = q ∙ ap (λ o. unwrap_or o 0) (e ∙ ap (λ x. result_unwrap_or x None) (wrote_all t h w)) ∙ count-by t
+
   -- The bytes at the front are the text.
-  pub wrote-front : (t : Option Text) {r : Written} {n : ℕ} → length (value_or [] t) ≤ length lent → Wrote t lent out r → r ≡ Bytes n → take n out ≡ value_or [] t
-  unfolding written short_for buffer_with
-  wrote-front none {n = n} h w e = let z : Bytes n ≡ Nothing = sym e ∙ w.is in cc
-  wrote-front (some t) {n = n} h w e =
-      let q : Bytes n ≡ Bytes (length t) = sym e ∙ w.is ∙ cond-ge _ _ h in
-      let k : n ≡ length t = cc in
-      ap (take n) (w.buffer ∙ cond-ge _ _ h ∙ overlay-parts t lent h) ∙ take_at t (drop (length t) lent) n (sym k)
-
-  pub wrote_count : (t : Option Text) {r : Written} {n : ℕ} → length (value_or [] t) ≤ length lent → Wrote t lent out r → r ≡ Bytes n → n ≡ length (value_or [] t)
-  unfolding written
-  wrote_count none {n = n} h w e = let z : Bytes n ≡ Nothing = sym e ∙ w.is in cc
-  wrote_count (some t) {n = n} h w e = let q : Bytes n ≡ Bytes (length t) = sym e ∙ w.is ∙ cond-ge _ _ h in cc
-
-  -- Where there are no bytes there is no text.
-  pub wrote-no-bytes : (t : Option Text) {r : Written} → length (value_or [] t) ≤ length lent → Wrote t lent out r
-      → OneOf (1 ∷ 2 ∷ []) (tag_of written-enum.the_type r) → value_or [] t ≡ []
-  unfolding written
-  wrote-no-bytes none h w o = refl
-  wrote-no-bytes (some t) h w o =
-      absurd (miss (1 ∷ 2 ∷ []) 0 tt (subst (λ x. OneOf (1 ∷ 2 ∷ []) (tag_of written-enum.the_type x)) (w.is ∙ cond-ge _ _ h) o))
+  pub wrote-front : take n out ≡ value_or [] t
+  wrote-front = front-by t h w wrote_count

@@ -3,12 +3,11 @@ use Prim.Native.Nat.{ℕ, zero, suc, ◌+◌, ◌-◌, ◌*◌, ◌/◌, ◌%◌
 use mathlib.Core.Path.{◌≡◌, sym, ap, ◌∙◌}
 use mathlib.Core.Bool.{Bool, true, false, cond}
 use mathlib.Core.Logic.{⊎_elim}
-use mathlib.Core.Option.{Option, none, some}
+use Rattle.std.specs.Prelude.{Option, None, Some}
 use mathlib.Core.List.{List, [], ◌∷◌, ◌++◌}
 use native.Mathlib.Omega.{arith}
 use lib.Dec.{eqb}
 use lib.ListN.{length, get_or, length-append, length-take}
-use Rattle.laws.specs.Lists.{nth}
 use Rattle.laws.specs.Optional.{value_or, when_some}
 use Rattle.laws.specs.Texts.{Text, bytes, utf8, digit, digits_before, decimal}
 use Rattle.laws.proofs.Digits.{digits-end, digits_more}
@@ -20,12 +19,13 @@ use Rattle.model.specs.Timeline.{Row, cell_at}
 use Rattle.model.specs.Views.{CellView, cell_view}
 use Rattle.model.specs.Requests.{cell_labels, spec_names, label_text}
 use Rattle.model.specs.Forecast.{Lent, is_stalled, cell_text, cells_text, row_text}
+use Rattle.op.specs.Chars.{view_text}
 use Rattle.op.proofs.Texts.{shown-short}
 use Rattle.config.specs.declared.Machine.{Machine}
-use Rattle.config.specs.View.{view_kind_name, view_machine}
+use Rattle.config.specs.View.{view_machine}
 use Rattle.config.specs.Kept.{MachineOk}
 use Rattle.config.proofs.Machines.{spare}
-use Rattle.words.proofs.Labels.{kind-named, kind_fits, name-listed, none-listed, label-kind, label-none}
+use Rattle.words.proofs.Labels.{kind_named, kind_fits, name_listed, none_listed, label_kind, label_none}
 use Rattle.pages.specs.Shown.{shown_text}
 
 -- ── A number ────────────────────────────────────────────────────────────────
@@ -55,7 +55,7 @@ abbrev pub ShortLabels : List UnitSpec → Type 0
 ShortLabels ks = (n : ℕ) → length (value_or [] (label_text ks n)) ≤ 8
 
 few-labels : (ks : List UnitSpec) (n : ℕ) → n < 5 → length (value_or [] (label_text ks n)) ≤ 8
-unfolding label_text cell_labels nth bytes utf8
+unfolding label_text cell_labels bytes utf8
 few-labels ks zero h = omega arith
 few-labels ks (suc zero) h = omega arith
 few-labels ks (suc (suc zero)) h = omega arith
@@ -68,14 +68,14 @@ short-as e h = rw e h
 
 module _ {m : Machine} (ok : MachineOk m) where
   kind-short : (k : ℕ) → length (value_or [] (spec_names (view_machine m).specs k)) ≤ 8
-  unfolding view_kind_name
+  unfolding view_text
   kind-short k =
       ⊎_elim
       (λ (h : k < m.specs_len).
       let n = (get_or m.specs k spare).name in
-      let e = sym (kind-named ok h) ∙ shown-short 8 n.len n.bytes (kind_fits ok h) in
-      short-as (sym (name-listed ok h)) (omega (arith, ap length e, length-take n.len n.bytes, kind_fits ok h)))
-      (λ (h : m.specs_len ≤ k). short-as (none-listed ok h) (omega arith))
+      let e = sym (kind_named ok h) ∙ shown-short 8 n.len n.bytes (kind_fits ok h) in
+      short-as (sym (name_listed ok h)) (omega (arith, ap length e, length-take n.len n.bytes, kind_fits ok h)))
+      (λ (h : m.specs_len ≤ k). short-as (none_listed ok h) (omega arith))
       (lt-or-ge k m.specs_len)
 
   pub short-labels : ShortLabels (view_machine m).specs
@@ -83,8 +83,8 @@ module _ {m : Machine} (ok : MachineOk m) where
       ⊎_elim
       (λ (h : n < 5). few-labels (view_machine m).specs n h)
       (λ (h : 5 ≤ n). ⊎_elim
-      (λ (l : n < 8). short-as (label-none (view_machine m).specs h l) (omega arith))
-      (λ (l : 8 ≤ n). short-as (sym (label-kind (view_machine m).specs l)) (kind-short (n - 8)))
+      (λ (l : n < 8). short-as (label_none (view_machine m).specs h l) (omega arith))
+      (λ (l : 8 ≤ n). short-as (sym (label_kind (view_machine m).specs l)) (kind-short (n - 8)))
       (lt-or-ge n 8))
       (lt-or-ge n 5)
 
@@ -108,8 +108,8 @@ module _ (ks : List UnitSpec) (short : ShortLabels ks) where
   cell-most b = shown-most (cell_view b)
 
   cell-or-none : (o : Option ℕ) → length (when_some o [] (cell_text ks)) ≤ 10
-  cell-or-none none = omega arith
-  cell-or-none (some b) = cell-most b
+  cell-or-none None = omega arith
+  cell-or-none (Some b) = cell-most b
 
 module _ (e : Lent) (short : ShortLabels e.engine.machine.specs) (r : Row) where
   pub cells-most : (n : ℕ) → length (cells_text e r n) ≤ n * 10

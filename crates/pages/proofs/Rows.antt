@@ -1,14 +1,14 @@
 -- Rows one behind the other.
+use Rattle.timeline.specs.declared.PipelineTimelineRow.{PipelineTimelineRow}
 use Prim.Native.Nat.{ℕ, zero, suc, ◌+◌, ◌-◌, ◌*◌, ◌%◌, ◌≤◌, ◌<◌}
 use mathlib.Core.Path.{◌≡◌, refl, sym, ap, ◌∙◌}
-use mathlib.Core.Option.{Option, none, some}
+use Rattle.std.specs.Prelude.{Option, None, Some, option_map, slice_get}
 use mathlib.Core.List.{List, [], ◌∷◌, ◌++◌, append_assoc, append-nil}
 use native.Mathlib.Nat.{mod-lt}
 use native.Mathlib.Numerals.{add-one}
 use native.Mathlib.Omega.{arith}
 use lib.ListN.{length, take}
 use lib.Seq.{take_all}
-use Rattle.laws.specs.Lists.{nth}
 use Rattle.laws.specs.Optional.{when_some}
 use Rattle.laws.specs.Texts.{bytes, decimal}
 use Rattle.laws.proofs.Slices.{All-get_or}
@@ -21,9 +21,7 @@ use Rattle.config.specs.Kept.{MachineOk}
 use Rattle.timeline.specs.declared.Window.{Window}
 use Rattle.timeline.specs.declared.Tracks.{Tracks}
 use Rattle.timeline.specs.declared.RowTexts.{RowTexts}
-use Rattle.timeline.specs.declared.MaybeRow.{MaybeRow}
-use Rattle.timeline.specs.declared.MaybeRow.TheVariants as maybe
-use Rattle.timeline.specs.View.{first_track, held_row, view_rows, WindowOk, TrackOk, TracksOk, shown, shown_or_none, ShowsRow}
+use Rattle.timeline.specs.View.{first_track, held_row, view_rows, WindowOk, TrackOk, TracksOk, shown, ShowsRow}
 use Rattle.timeline.specs.Cells.{bare}
 use Rattle.timeline.proofs.Rows.{from-length, from-nth}
 use Rattle.traces.proofs.Written.{laid_next}
@@ -45,10 +43,10 @@ row-bare : (e : Lent) (r : Row) → row_text e (bare (shown r)) ≡ row_text e r
 unfolding row_text shown
 row-bare e r = ap (λ t. decimal r.id ++ (bytes " " ++ (decimal r.first_cycle ++ (t ++ bytes "\n")))) (cells-bare e r r.count)
 
-shown_row-is : (e : Lent) (o : Option Row) → shown_row_text e (shown_or_none o) ≡ when_some o [] (row_text e)
-unfolding shown_row_text shown_or_none
-shown_row-is e none = refl
-shown_row-is e (some r) = row-bare e r
+shown_row-is : (e : Lent) (o : Option Row) → shown_row_text e (option_map shown o) ≡ when_some o [] (row_text e)
+unfolding shown_row_text shown
+shown_row-is e None = refl
+shown_row-is e (Some r) = row-bare e r
 
 -- Its parts in the order that they are put.
 pub row-parts : (e : Lent) (r : Row)
@@ -56,11 +54,11 @@ pub row-parts : (e : Lent) (r : Row)
 unfolding row_text
 row-parts e r = ap (λ t. decimal r.id ++ t) (append_assoc (bytes " ") (decimal r.first_cycle) (cells_text e r r.count ++ bytes "\n"))
 
-shown_row-most : {k : Machine} → MachineOk k → (cells : List ℕ) (v : MaybeRow) → FewCells v → (s : State) → s.machine ≡ view_machine k
+shown_row-most : {k : Machine} → MachineOk k → (cells : List ℕ) (v : Option PipelineTimelineRow) → FewCells v → (s : State) → s.machine ≡ view_machine k
     → length (shown_row_text (lent_of s cells) v) ≤ 2042
 unfolding shown_row_text
-shown_row-most ok cells (maybe.Some r) h s e = row-most (lent_of s cells) (engine-labels ok s e) (bare r) h
-shown_row-most ok cells maybe.Nothing h s e = omega arith
+shown_row-most ok cells (Some r) h s e = row-most (lent_of s cells) (engine-labels ok s e) (bare r) h
+shown_row-most ok cells None h s e = omega arith
 
 -- ── The rows that are held ──────────────────────────────────────────────────
 
@@ -70,11 +68,11 @@ module _ {w : Window} {ts : Tracks} (ok : WindowOk w) (tok : TracksOk ts) (xs : 
   few-held x =
       (All-get_or TrackOk ts.items (first_track 0) {i = x % w.history} tok.each (omega (arith, mod-lt x ok.least, ok.most, tok.size))).few
 
-  pub few-cells : {i : ℕ} {v : MaybeRow} → i < w.held → ShowsRow (nth (view_rows w ts xs) i) v → FewCells v
-  unfolding view_rows shown_or_none shown
+  pub few-cells : {i : ℕ} {v : Option PipelineTimelineRow} → i < w.held → ShowsRow (slice_get (view_rows w ts xs) i) v → FewCells v
+  unfolding view_rows shown
   few-cells {i} h q =
       let x = w.next - w.held + i in
-      rw (q.is ∙ ap shown_or_none (from-nth (held_row w.history ts.items xs.items) (w.next - w.held) w.held h)) (few-held x)
+      rw (q.is ∙ ap (option_map shown) (from-nth (held_row w.history ts.items xs.items) (w.next - w.held) w.held h)) (few-held x)
 
 pub all-rows : (w : Window) (ts : Tracks) (xs : RowTexts) {i : ℕ} → w.held ≤ i → take i (view_rows w ts xs) ≡ view_rows w ts xs
 unfolding view_rows
@@ -83,13 +81,13 @@ all-rows w ts xs {i} h =
 
 -- ── One more ────────────────────────────────────────────────────────────────
 
-rows_next : (e : Lent) (rs : List Row) (i : ℕ) → rows_text e (take (suc i) rs) ≡ rows_text e (take i rs) ++ when_some (nth rs i) [] (row_text e)
-unfolding rows_text nth
+rows_next : (e : Lent) (rs : List Row) (i : ℕ) → rows_text e (take (suc i) rs) ≡ rows_text e (take i rs) ++ when_some (slice_get rs i) [] (row_text e)
+unfolding rows_text
 rows_next e [] zero = refl
 rows_next e [] (suc i) = refl
 rows_next e (r ∷ rs) zero = append-nil (row_text e r)
 rows_next e (r ∷ rs) (suc i) =
-    ap (λ t. row_text e r ++ t) (rows_next e rs i) ∙ sym (append_assoc (row_text e r) (rows_text e (take i rs)) (when_some (nth rs i) [] (row_text e)))
+    ap (λ t. row_text e r ++ t) (rows_next e rs i) ∙ sym (append_assoc (row_text e r) (rows_text e (take i rs)) (when_some (slice_get rs i) [] (row_text e)))
 
 -- The first i rows stand from p on, and end at n.
 pub record FirstRows (k : Machine) (cells : List ℕ) (rs : List Row) (p : ℕ) (m out : List ℕ) (n i : ℕ) : Type 0 where
@@ -105,12 +103,12 @@ module _ {k : Machine} {cells : List ℕ} {rs : List Row} {p : ℕ} {m : List �
     pub rows-size : length out ≡ length m
     rows-size = of_size k f.text
 
-    pub rows_more : {v : MaybeRow} {out' : List ℕ} {n' : ℕ} → MachineOk k → FewCells v → ShowsRow (nth rs i) v
+    pub rows_more : {v : Option PipelineTimelineRow} {out' : List ℕ} {n' : ℕ} → MachineOk k → FewCells v → ShowsRow (slice_get rs i) v
         → LaidOf k n (λ s. shown_row_text (lent_of s cells) v) out out' n' → FirstRows k cells rs p m out' n' (i + 1)
     rows_more {v} ok few q l =
         record {
           text = λ s e.
-              let here = ap (shown_row_text (lent_of s cells)) q.is ∙ shown_row-is (lent_of s cells) (nth rs i) in
+              let here = ap (shown_row_text (lent_of s cells)) q.is ∙ shown_row-is (lent_of s cells) (slice_get rs i) in
               let more = sym (ap (λ j. rows_text (lent_of s cells) (take j rs)) (add-one i) ∙ rows_next (lent_of s cells) rs i) in
               laid_as more (laid_next (f.text s e) (laid_as here (l s e)));
           most = omega (arith, f.most, of-most k l 2042 (shown_row-most ok cells v few));

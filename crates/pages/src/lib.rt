@@ -17,21 +17,19 @@ ghost use Rattle.traces.specs.Texts.{Laid};
 ghost use Rattle.stalls.specs.View.{view_stats};
 ghost use Rattle.pages.specs.Shown.{shown_text, FewCells, shown_row_text};
 
-use capability::PipelineStats;
+use capability::{PipelineStats, PipelineTimelineState};
 use config::Machine;
-use timeline::cells::{MaybeCell, PipelineTimelineCell};
-use timeline::{MaybeRow, PipelineTimelineRow, RowTexts, Tracks, Window};
-use traces::texts::{Written, digits_of, put};
+use timeline::cells::PipelineTimelineCell;
+use timeline::{PipelineTimelineRow, RowTexts, Tracks, Window};
+use traces::texts::{digits_of, put};
 
 // The digits of a number.
 fn put_number(page: &mut [u8], at: usize, n: u64) -> usize
     requires { at + 20 ≤ length page.old }
     ensures { Laid at (decimal n) page.old page.new result }
 {
-    let d = digits_of(n, 10);
-    let bytes = d.bytes;
-    let from = d.at;
-    put(page, at, &bytes[from..])
+    let digits = digits_of(n, 10);
+    put(page, at, &digits.bytes[digits.at..])
 }
 
 // A text and a number behind it.
@@ -44,55 +42,53 @@ fn put_after(page: &mut [u8], at: usize, text: &[u8], n: u64) -> usize
 }
 
 // The name of a label; nothing where it has none.
-fn put_label(page: &mut [u8], at: usize, machine: Machine, label: u8) -> usize
-    requires machine_ok { MachineOk machine }
+fn put_label(page: &mut [u8], at: usize, machine: &Machine, label: u8) -> usize
+    requires machine_ok { MachineOk machine.now }
     requires at_in_bounds { at + 8 ≤ length page.old }
-    ensures { Laid at (value_or [] (label_text (view_machine machine).specs label)) page.old page.new result }
+    ensures { Laid at (value_or [] (label_text (view_machine machine.now).specs label)) page.old page.new result }
 {
     let mut name = [0u8; 8];
-    let w = words::write_cell_label(machine, label as usize, &mut name);
-    match w {
-        Written::Bytes(n) => put(page, at, &name[..n]),
-        _ => at,
-    }
+    let size = words::write_cell_label(machine, label as usize, &mut name)
+        .unwrap_or(None)
+        .unwrap_or(0);
+    put(page, at, &name[..size])
 }
 
 // A cell: a space, the label, and `*` where it is stalled.
 // model: Forecast.cell_text
-fn put_cell(page: &mut [u8], at: usize, machine: Machine, cell: PipelineTimelineCell) -> usize
-    requires machine_ok { MachineOk machine }
+fn put_cell(page: &mut [u8], at: usize, machine: &Machine, cell: PipelineTimelineCell) -> usize
+    requires machine_ok { MachineOk machine.now }
     requires at_in_bounds { at + 10 ≤ length page.old }
-    ensures { Laid at (shown_text (view_machine machine).specs (view_cell cell)) page.old page.new result }
+    ensures { Laid at (shown_text (view_machine machine.now).specs (view_cell cell)) page.old page.new result }
 {
-    let state = cell.state;
     let a = put(page, at, b" ");
     let b = put_label(page, a, machine, cell.label);
-    if state.number() == 3 {
-        return put(page, b, b"*");
+    if cell.state == PipelineTimelineState::Stalled {
+        put(page, b, b"*")
+    } else {
+        b
     }
-    b
 }
 
 // The cell of a row at an index, if it is there.
 fn put_nth_cell(
     page: &mut [u8],
     at: usize,
-    machine: Machine,
+    machine: &Machine,
     row: PipelineTimelineRow,
     window: Window,
     cells: &[u8],
     index: usize,
 ) -> usize
-    requires machine_ok { MachineOk machine }
+    requires machine_ok { MachineOk machine.now }
     requires window_ok { WindowOk window }
     requires history_in_bounds { window.history * 200 ≤ length cells.now }
     requires at_in_bounds { at + 10 ≤ length page.old }
-    ensures { Laid at (when_some (cell_at window.history (bare row) cells.now index) [] (cell_text (view_machine machine).specs)) page.old page.new result }
+    ensures { Laid at (when_some (cell_at window.history (bare row) cells.now index) [] (cell_text (view_machine machine.now).specs)) page.old page.new result }
 {
-    let found = timeline::cells::cell(row, window, cells, index);
-    match found {
-        MaybeCell::Some(c) => put_cell(page, at, machine, c),
-        _ => at,
+    match timeline::cells::cell(row, window, cells, index).unwrap_or(None) {
+        Some(cell) => put_cell(page, at, machine, cell),
+        None => at,
     }
 }
 
@@ -100,24 +96,21 @@ fn put_nth_cell(
 fn put_cells(
     page: &mut [u8],
     at: usize,
-    machine: Machine,
+    machine: &Machine,
     row: PipelineTimelineRow,
     window: Window,
     cells: &[u8],
 ) -> usize
-    requires machine_ok { MachineOk machine }
+    requires machine_ok { MachineOk machine.now }
     requires window_ok { WindowOk window }
-    requires history_value { window.history ≡ machine.history }
+    requires history_value { window.history ≡ machine.now.history }
     requires history_in_bounds { window.history * 200 ≤ length cells.now }
     requires cells_in_bounds { at + row.cells * 10 ≤ length page.old }
-    ensures { (s : State) → s.machine ≡ view_machine machine → Laid at (cells_text (lent_of s cells.now) (bare row) row.cells) page.old page.new result }
+    ensures { (s : State) → s.machine ≡ view_machine machine.now → Laid at (cells_text (lent_of s cells.now) (bare row) row.cells) page.old page.new result }
 {
-    let n = row.cells as usize;
     let mut next = at;
-    let mut i: usize = 0;
-    while i < n {
+    for i in 0..row.cells as usize {
         next = put_nth_cell(page, next, machine, row, window, cells, i);
-        i += 1;
     }
     next
 }
@@ -126,18 +119,18 @@ fn put_cells(
 fn put_row(
     page: &mut [u8],
     at: usize,
-    machine: Machine,
+    machine: &Machine,
     row: PipelineTimelineRow,
     window: Window,
     cells: &[u8],
 ) -> usize
-    requires machine_ok { MachineOk machine }
+    requires machine_ok { MachineOk machine.now }
     requires window_ok { WindowOk window }
-    requires history_value { window.history ≡ machine.history }
+    requires history_value { window.history ≡ machine.now.history }
     requires history_in_bounds { window.history * 200 ≤ length cells.now }
     requires cells_bound { row.cells ≤ 200 }
     requires at_in_bounds { at + 2042 ≤ length page.old }
-    ensures { (s : State) → s.machine ≡ view_machine machine → Laid at (row_text (lent_of s cells.now) (bare row)) page.old page.new result }
+    ensures { (s : State) → s.machine ≡ view_machine machine.now → Laid at (row_text (lent_of s cells.now) (bare row)) page.old page.new result }
 {
     let a = put_number(page, at, row.id);
     let b = put_after(page, a, b" ", row.first_cycle);
@@ -149,22 +142,22 @@ fn put_row(
 fn put_nth_row(
     page: &mut [u8],
     at: usize,
-    machine: Machine,
-    shown: MaybeRow,
+    machine: &Machine,
+    shown: Option<PipelineTimelineRow>,
     window: Window,
     cells: &[u8],
 ) -> usize
-    requires machine_ok { MachineOk machine }
+    requires machine_ok { MachineOk machine.now }
     requires window_ok { WindowOk window }
-    requires history_value { window.history ≡ machine.history }
+    requires history_value { window.history ≡ machine.now.history }
     requires history_in_bounds { window.history * 200 ≤ length cells.now }
     requires few_cells { FewCells shown }
     requires at_in_bounds { at + 2042 ≤ length page.old }
-    ensures { (s : State) → s.machine ≡ view_machine machine → Laid at (shown_row_text (lent_of s cells.now) shown) page.old page.new result }
+    ensures { (s : State) → s.machine ≡ view_machine machine.now → Laid at (shown_row_text (lent_of s cells.now) shown) page.old page.new result }
 {
     match shown {
-        MaybeRow::Some(row) => put_row(page, at, machine, row, window, cells),
-        MaybeRow::Nothing => at,
+        Some(row) => put_row(page, at, machine, row, window, cells),
+        None => at,
     }
 }
 
@@ -172,29 +165,26 @@ fn put_nth_row(
 pub fn put_rows(
     page: &mut [u8],
     at: usize,
-    machine: Machine,
+    machine: &Machine,
     window: Window,
-    tracks: Tracks,
-    texts: RowTexts,
+    tracks: &Tracks,
+    texts: &RowTexts,
     cells: &[u8],
 ) -> usize
-    requires machine_ok { MachineOk machine }
+    requires machine_ok { MachineOk machine.now }
     requires window_ok { WindowOk window }
-    requires tracks_ok { TracksOk tracks }
-    requires row_texts_ok { RowTextsOk texts }
-    requires history_value { window.history ≡ machine.history }
+    requires tracks_ok { TracksOk tracks.now }
+    requires row_texts_ok { RowTextsOk texts.now }
+    requires history_value { window.history ≡ machine.now.history }
     requires history_in_bounds { window.history * 200 ≤ length cells.now }
     requires held_in_bounds { at + window.held * 2042 ≤ length page.old }
-    ensures text { (s : State) → s.machine ≡ view_machine machine → Laid at (rows_text (lent_of s cells.now) (view_rows window tracks texts)) page.old page.new result }
+    ensures text { (s : State) → s.machine ≡ view_machine machine.now → Laid at (rows_text (lent_of s cells.now) (view_rows window tracks.now texts.now)) page.old page.new result }
     ensures most { result ≤ at + window.held * 2042 }
 {
-    let n = window.held;
     let mut next = at;
-    let mut i: usize = 0;
-    while i < n {
+    for i in 0..window.held {
         let shown = timeline::row(window, tracks, texts, i);
         next = put_nth_row(page, next, machine, shown, window, cells);
-        i += 1;
     }
     next
 }

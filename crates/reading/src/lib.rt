@@ -1,4 +1,4 @@
-// Bytes read from an input until a buffer is full or the input ends.
+// Bytes read from an input until a buffer is full or the input ends, and buffers to read into.
 #![tactic(auto)]
 
 ghost use Rattle.std.specs.Prelude.{◌≡◌, ◌<◌, ◌≤◌, length, take, IfOk};
@@ -8,6 +8,13 @@ ghost use Rattle.std.specs.Io.KnownBytes.{Consumes, IsAtEnd};
 use std::io;
 use std::io::Read;
 
+// A buffer of N bytes, all the same. (A caller's goals count its bytes by this clause, and do not write them out.)
+pub fn filled<const N: usize>(byte: u8) -> [u8; N]
+    ensures { length result ≡ N }
+{
+    [byte; N]
+}
+
 // Reads until the buffer is full or the input ends, and returns how many bytes it put at its start.
 pub fn read_full<R: Read>(input: &mut R, buf: &mut [u8]) -> io::Result<usize>
     ensures in_bounds { ReadsAtMost result buf.new }
@@ -15,6 +22,7 @@ pub fn read_full<R: Read>(input: &mut R, buf: &mut [u8]) -> io::Result<usize>
     ensures end { IfOk result (λ n. n < length buf.new → IsAtEnd (R.remaining input.new)) }
 {
     let mut done = 0;
+    // Kept: the reader says how many bytes each read brings.
     while done < buf.len() {
         let n = input.read(&mut buf[done..])?;
         if n == 0 {

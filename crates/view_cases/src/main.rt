@@ -6,23 +6,15 @@
 ghost use Rattle.std.specs.Prelude.{◌≡◌, length, IfOk};
 ghost use Rattle.scoreboard.specs.Valid.{Valid};
 
-use capability::{PipelineEdge, PipelineInstructionClass, PipelineStageRole};
-use config::{KindName, PipelineShape, StageSpec, UnitSpec};
+use capability::{PipelineInstructionClass, PipelineStageRole, Refusal};
+use config::{KindName, PipelineShape, UnitSpec};
 use engine::Answer;
-use flight::MaybeHazard;
-use inspect::kinds::MaybeKind;
-use inspect::stages::MaybeStage;
-use inspect::stations::{MaybeOperand, MaybeStation};
-use inspect::waits::MaybeTrace;
-use occupants::{MaybeSlot, PipelineSlotView};
-use op::{MaybeNumber, Name, PipelineOp, Text};
-use registers::{MaybeIndex, MaybeOwed};
+use inspect::stations::PipelineOperandView;
+use occupants::PipelineSlotView;
+use op::{Name, PipelineOp, Text};
 use requests::{Field, Place};
 use scoreboard::ScoreboardPipeline;
 use std::io;
-use timeline::MaybeRow;
-use timeline::cells::MaybeCell;
-use traces::texts::{Written, write_label};
 
 // ── Words ───────────────────────────────────────────────────────────────────
 
@@ -35,64 +27,36 @@ fn end(rt: &impl Print) -> io::Result<()> {
     rt.write_all(b"\n")
 }
 
-fn told(rt: &impl Print, w: Written, out: &[u8]) -> io::Result<()> {
-    match w {
-        Written::Bytes(n) => {
-            if n <= out.len() {
-                say(rt, &out[..n])?;
-            }
-            Ok(())
-        }
+fn told(rt: &impl Print, written: Result<Option<usize>, Refusal>, out: &[u8]) -> io::Result<()> {
+    match written {
+        Ok(Some(size)) => say(rt, &out[..size.min(out.len())]),
         _ => say(rt, b"-"),
     }
-}
-
-fn number(rt: &impl Print, n: u64) -> io::Result<()> {
-    let mut out = [0u8; 20];
-    let w = write_label(b"", n as usize, &mut out);
-    told(rt, w, &out)
 }
 
 fn flag(rt: &impl Print, b: bool) -> io::Result<()> {
     if b { say(rt, b"yes") } else { say(rt, b"no") }
 }
 
-fn four(rt: &impl Print, a: u64, b: u64, c: u64, d: u64) -> io::Result<()> {
-    number(rt, a)?;
-    number(rt, b)?;
-    number(rt, c)?;
-    number(rt, d)
-}
-
-fn index(rt: &impl Print, m: MaybeIndex) -> io::Result<()> {
-    match m {
-        MaybeIndex::Some(n) => number(rt, n as u64),
-        MaybeIndex::Nothing => say(rt, b"-"),
-    }
-}
-
-fn hazard(rt: &impl Print, m: MaybeHazard) -> io::Result<()> {
-    match m {
-        MaybeHazard::Some(h) => {
-            let n = h.number();
-            number(rt, n as u64)
-        }
-        MaybeHazard::Nothing => say(rt, b"-"),
+fn index(rt: &impl Print, index: Option<u8>) -> io::Result<()> {
+    match index {
+        Some(n) => print!(rt; " {n}"),
+        None => say(rt, b"-"),
     }
 }
 
 // ── An operation (PipelineSlotView) ─────────────────────────────────────────
 
-fn field(rt: &impl Print, engine: ScoreboardPipeline, place: Place, f: Field) -> io::Result<()>
-    requires { Valid engine }
+fn field(rt: &impl Print, engine: &ScoreboardPipeline, place: Place, f: Field) -> io::Result<()>
+    requires { Valid engine.now }
 {
     let mut out = [0u8; 64];
     let w = views::texts::slot_text(engine, place, f, &mut out);
     told(rt, w, &out)
 }
 
-fn texts(rt: &impl Print, engine: ScoreboardPipeline, place: Place) -> io::Result<()>
-    requires { Valid engine }
+fn texts(rt: &impl Print, engine: &ScoreboardPipeline, place: Place) -> io::Result<()>
+    requires { Valid engine.now }
 {
     field(rt, engine, place, Field::Disassembly)?;
     field(rt, engine, place, Field::Destination)?;
@@ -101,317 +65,259 @@ fn texts(rt: &impl Print, engine: ScoreboardPipeline, place: Place) -> io::Resul
 }
 
 fn numbers(rt: &impl Print, s: PipelineSlotView) -> io::Result<()> {
-    let class = s.class;
-    let wait = s.hazard;
-    number(rt, s.address)?;
-    number(rt, class.as_usize() as u64)?;
+    print!(rt; " {} {}", s.address, s.class.as_usize())?;
     flag(rt, s.bubble)?;
     flag(rt, s.speculative)?;
     flag(rt, s.predicted_taken)?;
-    hazard(rt, wait)?;
+    index(rt, s.hazard.map(|hazard| u8::from(hazard)))?;
     flag(rt, s.atomic)?;
-    number(rt, s.cycles_remaining as u64)
+    print!(rt; " {}", s.cycles_remaining)
 }
 
 fn slot(
     rt: &impl Print,
-    engine: ScoreboardPipeline,
-    shown: MaybeSlot,
+    engine: &ScoreboardPipeline,
+    shown: Option<PipelineSlotView>,
     place: Place,
 ) -> io::Result<()>
-    requires { Valid engine }
+    requires { Valid engine.now }
 {
     match shown {
-        MaybeSlot::Some(s) => {
+        Some(s) => {
             numbers(rt, s)?;
             texts(rt, engine, place)?;
         }
-        MaybeSlot::Nothing => say(rt, b"-")?,
+        None => say(rt, b"-")?,
     }
     end(rt)
 }
 
 // ── Views at an index: no line past the end ─────────────────────────────────
 
-fn stage(rt: &impl Print, engine: ScoreboardPipeline, i: usize) -> io::Result<()>
-    requires { Valid engine }
+fn stage(rt: &impl Print, engine: &ScoreboardPipeline, i: usize) -> io::Result<()>
+    requires { Valid engine.now }
 {
     let mut out = [0u8; 8];
-    let shown = views::stages::stage(engine, i);
-    match shown {
-        MaybeStage::Some(s) => {
-            let role = s.role;
-            let held = s.slot;
-            let n = role.number();
-            let w = views::texts::stage_name(i, &mut out);
-            rt.write_all(b"stage")?;
-            told(rt, w, &out)?;
-            number(rt, n as u64)?;
-            slot(rt, engine, held, Place::Stage(i))
-        }
-        MaybeStage::Nothing => Ok(())
-    }
+    let Some(s) = views::stages::stage(engine, i) else {
+        return Ok(());
+    };
+    rt.write_all(b"stage")?;
+    let name = views::texts::stage_name(i, &mut out);
+    told(rt, name, &out)?;
+    print!(rt; " {}", u8::from(s.role))?;
+    slot(rt, engine, s.slot, Place::Stage(i))
 }
 
-fn unit(rt: &impl Print, engine: ScoreboardPipeline, i: usize) -> io::Result<()>
-    requires { Valid engine }
+fn unit(rt: &impl Print, engine: &ScoreboardPipeline, i: usize) -> io::Result<()>
+    requires { Valid engine.now }
 {
     let mut out = [0u8; 8];
-    let shown = views::kinds::unit(engine, i);
-    match shown {
-        MaybeKind::Some(k) => {
-            let class = k.latency_class;
-            let first = k.first;
-            let n = class.as_usize();
-            let w = views::texts::unit_name(engine, i, &mut out);
-            rt.write_all(b"unit")?;
-            told(rt, w, &out)?;
-            four(
-                rt,
-                k.capacity as u64,
-                k.active as u64,
-                n as u64,
-                k.latency as u64,
-            )?;
-            slot(rt, engine, first, Place::Kind(i))
-        }
-        MaybeKind::Nothing => Ok(())
-    }
+    let Some(k) = views::kinds::unit(engine, i) else {
+        return Ok(());
+    };
+    rt.write_all(b"unit")?;
+    let name = views::texts::unit_name(engine, i, &mut out);
+    told(rt, name, &out)?;
+    let class = k.latency_class.as_usize();
+    print!(rt; " {} {} {} {}", k.capacity, k.active, class, k.latency)?;
+    slot(rt, engine, k.first, Place::Kind(i))
 }
 
 fn operand(
     rt: &impl Print,
-    engine: ScoreboardPipeline,
+    engine: &ScoreboardPipeline,
     station: usize,
     at: usize,
-    shown: MaybeOperand,
+    shown: Option<PipelineOperandView>,
 ) -> io::Result<()>
-    requires { Valid engine }
+    requires { Valid engine.now }
 {
     let mut out = [0u8; 16];
-    match shown {
-        MaybeOperand::Some(o) => {
-            let producer = o.producer;
-            let w = views::texts::operand_register(engine, station, at, &mut out);
-            told(rt, w, &out)?;
-            index(rt, producer)
-        }
-        MaybeOperand::Nothing => say(rt, b"-"),
-    }
+    let Some(o) = shown else {
+        return say(rt, b"-");
+    };
+    let register = views::texts::operand_register(engine, station, at, &mut out);
+    told(rt, register, &out)?;
+    index(rt, o.producer)
 }
 
-fn station(rt: &impl Print, engine: ScoreboardPipeline, i: usize) -> io::Result<()>
-    requires { Valid engine }
+fn station(rt: &impl Print, engine: &ScoreboardPipeline, i: usize) -> io::Result<()>
+    requires { Valid engine.now }
 {
     let mut out = [0u8; 16];
-    let shown = views::stations::station(engine, i);
-    match shown {
-        MaybeStation::Some(s) => {
-            let phase = s.phase;
-            let tag = s.tag;
-            let held = s.slot;
-            let operand_0 = s.operand_0;
-            let operand_1 = s.operand_1;
-            let n = phase.number();
-            let w = views::texts::station_label(engine, i, &mut out);
-            rt.write_all(b"station")?;
-            told(rt, w, &out)?;
-            number(rt, s.unit as u64)?;
-            number(rt, n as u64)?;
-            index(rt, tag)?;
-            operand(rt, engine, i, 0, operand_0)?;
-            operand(rt, engine, i, 1, operand_1)?;
-            slot(rt, engine, held, Place::Station(i))
-        }
-        MaybeStation::Nothing => Ok(())
-    }
+    let Some(s) = views::stations::station(engine, i) else {
+        return Ok(());
+    };
+    rt.write_all(b"station")?;
+    let label = views::texts::station_label(engine, i, &mut out);
+    told(rt, label, &out)?;
+    print!(rt; " {} {}", s.unit, u8::from(s.phase))?;
+    index(rt, s.tag)?;
+    operand(rt, engine, i, 0, s.operand_0)?;
+    operand(rt, engine, i, 1, s.operand_1)?;
+    slot(rt, engine, s.slot, Place::Station(i))
 }
 
-fn trace(rt: &impl Print, engine: ScoreboardPipeline, i: usize) -> io::Result<()>
-    requires { Valid engine }
+fn trace(rt: &impl Print, engine: &ScoreboardPipeline, i: usize) -> io::Result<()>
+    requires { Valid engine.now }
 {
     let mut out = [0u8; 256];
-    let shown = views::waits::trace(engine, i);
-    match shown {
-        MaybeTrace::Some(t) => {
-            let kind = t.kind;
-            let n = kind.number();
-            let w = views::texts::trace_detail(engine, i, &mut out);
-            rt.write_all(b"trace")?;
-            number(rt, n as u64)?;
-            number(rt, t.from_stage as u64)?;
-            number(rt, t.to_stage as u64)?;
-            told(rt, w, &out)?;
-            end(rt)
-        }
-        MaybeTrace::Nothing => Ok(())
-    }
+    let Some(t) = views::waits::trace(engine, i) else {
+        return Ok(());
+    };
+    print!(rt;
+        "trace {} {} {}",
+        u8::from(t.kind),
+        t.from_stage,
+        t.to_stage
+    )?;
+    let detail = views::texts::trace_detail(engine, i, &mut out);
+    told(rt, detail, &out)?;
+    end(rt)
 }
 
-fn rename(rt: &impl Print, engine: ScoreboardPipeline, i: usize) -> io::Result<()>
-    requires { Valid engine }
+fn rename(rt: &impl Print, engine: &ScoreboardPipeline, i: usize) -> io::Result<()>
+    requires { Valid engine.now }
 {
     let mut out = [0u8; 16];
-    let shown = views::claims::rename(engine, i);
-    match shown {
-        MaybeOwed::Some(o) => {
-            let w = views::texts::rename_register(engine, i, &mut out);
-            rt.write_all(b"rename")?;
-            told(rt, w, &out)?;
-            number(rt, o.unit as u64)?;
-            end(rt)
-        }
-        MaybeOwed::Nothing => Ok(())
-    }
+    let Some(o) = views::claims::rename(engine, i) else {
+        return Ok(());
+    };
+    rt.write_all(b"rename")?;
+    let register = views::texts::rename_register(engine, i, &mut out);
+    told(rt, register, &out)?;
+    println!(rt; " {}", o.unit)
 }
 
-fn queued(rt: &impl Print, engine: ScoreboardPipeline, i: usize) -> io::Result<()>
-    requires { Valid engine }
+fn queued(rt: &impl Print, engine: &ScoreboardPipeline, i: usize) -> io::Result<()>
+    requires { Valid engine.now }
 {
     let shown = views::claims::queued(engine, i);
-    match shown {
-        MaybeSlot::Some(s) => {
-            rt.write_all(b"queued")?;
-            slot(rt, engine, MaybeSlot::Some(s), Place::Queue(i))
-        }
-        MaybeSlot::Nothing => Ok(()),
+    if shown.is_none() {
+        return Ok(());
     }
+    rt.write_all(b"queued")?;
+    slot(rt, engine, shown, Place::Queue(i))
 }
 
 fn cell(
     rt: &impl Print,
-    engine: ScoreboardPipeline,
+    engine: &ScoreboardPipeline,
     row: usize,
     i: usize,
     cells: &[u8],
 ) -> io::Result<()>
-    requires { Valid engine }
+    requires { Valid engine.now }
 {
     let mut out = [0u8; 8];
-    let shown = views::history::timeline_cell(engine, row, i, cells);
-    match shown {
-        MaybeCell::Some(c) => {
-            let state = c.state;
-            let role = c.role;
-            let n = state.number();
-            let m = role.number();
-            let w = views::texts::cell_label(engine, c.label as usize, &mut out);
-            told(rt, w, &out)?;
-            number(rt, n as u64)?;
-            number(rt, m as u64)
-        }
-        _ => say(rt, b"-"),
-    }
+    let Ok(Some(c)) = views::history::timeline_cell(engine, row, i, cells) else {
+        return say(rt, b"-");
+    };
+    let label = views::texts::cell_label(engine, c.label as usize, &mut out);
+    told(rt, label, &out)?;
+    print!(rt; " {} {}", u8::from(c.state), u8::from(c.role))
 }
 
-fn row_cells(
-    rt: &impl Print,
-    engine: ScoreboardPipeline,
-    row: usize,
-    n: usize,
-    cells: &[u8],
-) -> io::Result<()>
-    requires { Valid engine }
-{
-    let mut i: usize = 0;
-    while i < n {
-        cell(rt, engine, row, i, cells)?;
-        i += 1;
-    }
-    Ok(())
-}
-
-fn row(rt: &impl Print, engine: ScoreboardPipeline, i: usize, cells: &[u8]) -> io::Result<()>
-    requires { Valid engine }
+fn row(rt: &impl Print, engine: &ScoreboardPipeline, i: usize, cells: &[u8]) -> io::Result<()>
+    requires { Valid engine.now }
 {
     let mut out = [0u8; 64];
-    let shown = views::history::timeline_row(engine, i);
-    match shown {
-        MaybeRow::Some(r) => {
-            let class = r.class;
-            let n = class.as_usize();
-            let w = views::texts::row_disassembly(engine, i, &mut out);
-            rt.write_all(b"row")?;
-            four(rt, r.address, n as u64, r.first_cycle, r.cells as u64)?;
-            flag(rt, r.atomic)?;
-            told(rt, w, &out)?;
-            row_cells(rt, engine, i, r.cells as usize, cells)?;
-            end(rt)
-        }
-        MaybeRow::Nothing => Ok(())
+    let Some(r) = views::history::timeline_row(engine, i) else {
+        return Ok(());
+    };
+    let class = r.class.as_usize();
+    print!(rt; "row {} {} {} {}", r.address, class, r.first_cycle, r.cells)?;
+    flag(rt, r.atomic)?;
+    let text = views::texts::row_disassembly(engine, i, &mut out);
+    told(rt, text, &out)?;
+    for k in 0..r.cells as usize {
+        cell(rt, engine, i, k, cells)?;
     }
+    end(rt)
 }
 
 // ── The engine as a whole ───────────────────────────────────────────────────
 
-fn status(rt: &impl Print, engine: ScoreboardPipeline) -> io::Result<()>
-    requires { Valid engine }
+fn status(rt: &impl Print, engine: &ScoreboardPipeline) -> io::Result<()>
+    requires { Valid engine.now }
 {
     let mut out = [0u8; 64];
     let s = views::status(engine);
-    let w = views::texts::status_message(engine, &mut out);
     rt.write_all(b"status")?;
     flag(rt, s.enabled)?;
     flag(rt, s.sequential)?;
     flag(rt, s.halted)?;
     flag(rt, s.faulted)?;
-    told(rt, w, &out)?;
+    let message = views::texts::status_message(engine, &mut out);
+    told(rt, message, &out)?;
     end(rt)
 }
 
-fn stats(rt: &impl Print, engine: ScoreboardPipeline) -> io::Result<()>
-    requires { Valid engine }
+fn stats(rt: &impl Print, engine: &ScoreboardPipeline) -> io::Result<()>
+    requires { Valid engine.now }
 {
     let c = views::stats(engine);
-    rt.write_all(b"stats")?;
-    four(rt, c.cycles, c.committed, c.stalls, c.raw_stalls)?;
-    four(
-        rt,
+    let counters = [
+        c.cycles,
+        c.committed,
+        c.stalls,
+        c.raw_stalls,
         c.load_use_stalls,
         c.branch_stalls,
         c.functional_unit_stalls,
         c.memory_stalls,
-    )?;
-    four(rt, c.waw_stalls, c.war_stalls, c.flushes, c.branches)?;
+        c.waw_stalls,
+        c.war_stalls,
+        c.flushes,
+        c.branches,
+    ];
+    rt.write_all(b"stats")?;
+    for counter in counters {
+        print!(rt; " {counter}")?;
+    }
     end(rt)
 }
 
-fn counts(rt: &impl Print, engine: ScoreboardPipeline) -> io::Result<()>
-    requires { Valid engine }
+fn counts(rt: &impl Print, engine: &ScoreboardPipeline) -> io::Result<()>
+    requires { Valid engine.now }
 {
+    let counts = [
+        views::kinds::unit_count(engine),
+        views::waits::trace_count(engine),
+        views::history::timeline_len(engine),
+        views::stations::station_count(engine),
+        views::claims::rename_count(engine),
+        views::claims::queue_count(engine),
+    ];
     rt.write_all(b"counts")?;
-    number(rt, views::kinds::unit_count(engine) as u64)?;
-    number(rt, views::waits::trace_count(engine) as u64)?;
-    number(rt, views::history::timeline_len(engine) as u64)?;
-    number(rt, views::stations::station_count(engine) as u64)?;
-    number(rt, views::claims::rename_count(engine) as u64)?;
-    number(rt, views::claims::queue_count(engine) as u64)?;
+    for count in counts {
+        print!(rt; " {count}")?;
+    }
     end(rt)
 }
 
-fn questions(rt: &impl Print, engine: ScoreboardPipeline) -> io::Result<()>
-    requires { Valid engine }
+fn questions(rt: &impl Print, engine: &ScoreboardPipeline) -> io::Result<()>
+    requires { Valid engine.now }
 {
     rt.write_all(b"next")?;
     flag(rt, views::questions::enabled(engine))?;
-    number(rt, views::questions::fetch_pc(engine))?;
-    number(rt, views::questions::resume_pc(engine))?;
+    let fetch_pc = views::questions::fetch_pc(engine);
+    let resume_pc = views::questions::resume_pc(engine);
+    print!(rt; " {fetch_pc} {resume_pc}")?;
     flag(rt, views::questions::in_flight_before(engine, 1))?;
     flag(rt, views::questions::in_flight_before(engine, 2))?;
     end(rt)
 }
 
-fn show(rt: &impl Print, state: &[u8], engine: ScoreboardPipeline, cells: &[u8]) -> io::Result<()>
-    requires { Valid engine }
+fn show(rt: &impl Print, state: &str, engine: &ScoreboardPipeline, cells: &[u8]) -> io::Result<()>
+    requires { Valid engine.now }
 {
-    rt.write_all(state)?;
-    end(rt)?;
+    println!(rt; "{state}")?;
     status(rt, engine)?;
     stats(rt, engine)?;
     counts(rt, engine)?;
     questions(rt, engine)?;
-    let mut i: usize = 0;
-    while i < 6 {
+    for i in 0..6 {
         stage(rt, engine, i)?;
         unit(rt, engine, i)?;
         station(rt, engine, i)?;
@@ -419,50 +325,32 @@ fn show(rt: &impl Print, state: &[u8], engine: ScoreboardPipeline, cells: &[u8])
         rename(rt, engine, i)?;
         queued(rt, engine, i)?;
         row(rt, engine, i, cells)?;
-        i += 1;
     }
     Ok(())
 }
 
 // What no engine changes.
 
-fn edge(rt: &impl Print, e: PipelineEdge) -> io::Result<()> {
-    let kind = e.kind;
-    let n = kind.number();
-    number(rt, e.from as u64)?;
-    number(rt, e.to as u64)?;
-    number(rt, n as u64)
-}
-
 fn edges(rt: &impl Print) -> io::Result<()> {
     let list = views::stages::edges();
     rt.write_all(b"edges")?;
-    edge(rt, list.items[0])?;
-    edge(rt, list.items[1])?;
-    edge(rt, list.items[2])?;
-    edge(rt, list.items[3])?;
-    edge(rt, list.items[4])?;
+    for edge in &list.items {
+        print!(rt; " {} {} {}", edge.from, edge.to, u8::from(edge.kind))?;
+    }
     end(rt)
 }
 
 fn orders(rt: &impl Print) -> io::Result<()> {
-    let first = views::stages::entry_stages();
-    let all = views::stages::stage_order();
-    let of = views::claims::buffer_entry(0);
-    rt.write_all(b"stages")?;
-    number(rt, views::stages::stage_count() as u64)?;
-    number(rt, first[0] as u64)?;
-    four(
-        rt,
-        all[0] as u64,
-        all[1] as u64,
-        all[2] as u64,
-        all[3] as u64,
-    )?;
-    number(rt, all[4] as u64)?;
-    number(rt, views::claims::buffer_count() as u64)?;
-    number(rt, views::claims::buffer_capacity() as u64)?;
-    if let MaybeSlot::Nothing = of {
+    print!(rt; "stages {}", views::stages::stage_count())?;
+    for stage in views::stages::entry_stages() {
+        print!(rt; " {stage}")?;
+    }
+    for stage in views::stages::stage_order() {
+        print!(rt; " {stage}")?;
+    }
+    let count = views::claims::buffer_count();
+    print!(rt; " {} {}", count, views::claims::buffer_capacity())?;
+    if views::claims::buffer_entry(0).is_none() {
         say(rt, b"-")?;
     }
     end(rt)
@@ -471,28 +359,24 @@ fn orders(rt: &impl Print) -> io::Result<()> {
 // ── The machine and its operations ──────────────────────────────────────────
 
 // MUL takes multiplications alone; two of EX take every class.
+#[tactic(auto, unfolding(capability::specs::Numbers::class_number))]
 fn machine() -> PipelineShape {
+    let multiply = PipelineInstructionClass::Multiply;
     let mut shape = PipelineShape::empty();
     let mut classes = [false; 10];
-    classes[1] = true;
-    let mul = UnitSpec {
-        name: KindName {
-            bytes: [0x4D, 0x55, 0x4C, 0, 0, 0, 0, 0],
-            len: 3,
-        },
+    classes[multiply.as_usize()] = true;
+    shape.stages[2].role = PipelineStageRole::Execute;
+    shape.stages_len = 3;
+    shape.units[0] = UnitSpec {
+        name: KindName::from_slice(b"MUL"),
         classes,
-        latency_class: PipelineInstructionClass::Multiply,
+        latency_class: multiply,
         capacity: 1,
     };
-    let mut ex = UnitSpec::generic();
-    ex.capacity = 2;
-    let execute = StageSpec {
-        role: PipelineStageRole::Execute,
+    shape.units[1] = UnitSpec {
+        capacity: 2,
+        ..UnitSpec::generic()
     };
-    shape.stages[2] = execute;
-    shape.stages_len = 3;
-    shape.units[0] = mul;
-    shape.units[1] = ex;
     shape.units_len = 2;
     shape.timing.mul = 2;
     shape.history = 2;
@@ -530,11 +414,9 @@ fn started(engine: ScoreboardPipeline) -> ScoreboardPipeline
     ensures { Valid result }
 {
     let next = engine.start_cycle();
-    let after = next.engine;
-    let answer = next.answer;
-    match answer {
-        Answer::Offered(v) => after.retire().engine,
-        _ => after,
+    match next.answer {
+        Answer::Offered(_) => next.engine.retire().engine,
+        _ => next.engine,
     }
 }
 
@@ -544,18 +426,12 @@ fn advanced(engine: ScoreboardPipeline, cells: &mut [u8]) -> ScoreboardPipeline
     ensures valid { Valid result }
     ensures size { length cells.new ≡ length cells.old }
 {
-    let next = engine.advance(MaybeNumber::Nothing, cells);
+    let next = engine.advance(None, cells);
     let after = next.engine;
-    let answer = next.answer;
-    match answer {
-        Answer::Invitation(address) => {
-            let number = after.window.next;
-            if number < 4 {
-                let op = operation_at(number, address);
-                after.fetched(op, cells).engine
-            } else {
-                after
-            }
+    let number = after.window.next;
+    match next.answer {
+        Answer::Invitation(address) if number < 4 => {
+            after.fetched(operation_at(number, address), cells).engine
         }
         _ => after,
     }
@@ -567,11 +443,8 @@ fn run(engine: ScoreboardPipeline, cycles: usize, cells: &mut [u8]) -> Scoreboar
     ensures size { length cells.new ≡ length cells.old }
 {
     let mut e = engine;
-    let mut i: usize = 0;
-    while i < cycles {
-        let half = started(e);
-        e = advanced(half, cells);
-        i += 1;
+    for _ in 0..cycles {
+        e = advanced(started(e), cells);
     }
     e
 }
@@ -586,11 +459,11 @@ fn busy(
     ensures { IfOk result (λ e. Valid e) }
 {
     let on = engine.set_enabled(true);
-    show(rt, b"idle", on.engine, cells)?;
+    show(rt, "idle", &on.engine, cells)?;
     let e = run(on.engine, 5, cells);
-    show(rt, b"evicted", e, cells)?;
+    show(rt, "evicted", &e, cells)?;
     let noted = run(e, 1, cells).set_capacity(0, 2);
-    show(rt, b"noted", noted.engine, cells)?;
+    show(rt, "noted", &noted.engine, cells)?;
     Ok(run(noted.engine, 1, cells))
 }
 
@@ -599,13 +472,13 @@ fn stopped(rt: &impl Print, engine: ScoreboardPipeline, cells: &mut [u8]) -> io:
     requires { Valid engine }
 {
     let offer = engine.start_cycle();
-    show(rt, b"offer", offer.engine, cells)?;
+    show(rt, "offer", &offer.engine, cells)?;
     let settled = offer.engine.retire();
     let e = advanced(settled.engine, cells);
     let halted = run(e, 2, cells).halt();
-    show(rt, b"halted", halted.engine, cells)?;
+    show(rt, "halted", &halted.engine, cells)?;
     let built = halted.engine.redirect(64);
-    show(rt, b"built", built.engine, cells)
+    show(rt, "built", &built.engine, cells)
 }
 
 fn main(rt: HostRuntime) -> io::Result<()> {

@@ -1,5 +1,5 @@
 -- The advance after the start.
-use Rattle.op.specs.View.{view_maybe_number}
+
 use Rattle.tracks.specs.View.{tracks_of}
 use Rattle.slots.specs.View.{units_of}
 use Rattle.board.specs.View.{board_of}
@@ -18,7 +18,6 @@ advanced-requires-clause-restable c =
     restable (c.started-half.ensures.is whole p.valid).valid
 
 pub returns-clause-is : goal.returns-clause-is
-unfolding view_maybe_number
 returns-clause-is c e v =
     let a = c.args in
     let whole : Engine =

@@ -11,14 +11,12 @@ use Rattle.pages.proofs.put_cell.Goals as goal
 pub put-requires : goal.put-requires
 put-requires c = laid-within c.put_label-b.ensures 8 1 (short-labels c.requires.machine_ok c.args.cell.label) (laid-within c.put-a.ensures 1 9 (omega arith) (omega (arith, c.requires.at_in_bounds)))
 
-pub returns-then-number-eq3 : goal.returns-then-number-eq3
+pub returns-then-eq : goal.returns-then-eq
 unfolding bytes utf8
-returns-then-number-eq3 c = let a = c.args in
-    laid_as (stalled-parts (view_machine a.machine).specs a.cell c.number.ensures c.if-number-eq3.true)
+returns-then-eq c = laid_as (stalled-parts (view_machine c.args.machine.now).specs c.args.cell c.eq.ensures c.if-eq.true)
     (laid_next c.put-a.ensures (laid_next c.put_label-b.ensures c.put.ensures))
 
-pub returns : goal.returns
+pub returns-else-eq : goal.returns-else-eq
 unfolding bytes utf8
-returns c = let a = c.args in
-    laid_as (plain-parts (view_machine a.machine).specs a.cell c.number.ensures c.if-number-eq3.false)
+returns-else-eq c = laid_as (plain-parts (view_machine c.args.machine.now).specs c.args.cell c.eq.ensures c.if-eq.false)
     (laid_next c.put-a.ensures c.put_label-b.ensures)

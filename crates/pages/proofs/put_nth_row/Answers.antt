@@ -10,7 +10,7 @@ unfolding shown_row_text
 returns-in-Some c = let a = c.args in
     λ s e. laid_as (sym (ap (shown_row_text (lent_of s a.cells.now)) c.in-Some.is)) (c.put_row.ensures s e)
 
-pub returns-in-Nothing : goal.returns-in-Nothing
+pub returns-in-None : goal.returns-in-None
 unfolding shown_row_text
-returns-in-Nothing c = let a = c.args in
-    λ s e. laid-empty (ap (shown_row_text (lent_of s a.cells.now)) c.in-Nothing.is) refl refl
+returns-in-None c = let a = c.args in
+    λ s e. laid-empty (ap (shown_row_text (lent_of s a.cells.now)) c.in-None.is) refl refl

@@ -5,4 +5,4 @@ use Rattle.pages.proofs.put_number.Goals as goal
 
 pub returns : goal.returns
 unfolding decimal
-returns c = laid_as (digits-part c.digits_of-d.ensures) c.put.ensures
+returns c = laid_as (digits-part c.digits_of-digits.ensures) c.put.ensures

@@ -38,7 +38,7 @@ put-requires c =
     let a = c.args in
     let within = cells-within c.requires.machine_ok (bare a.row) a.cells.now a.row.cells c.put_cells-c.ensures in
     let few = c.requires.cells_bound in
-    omega (arith, within, of_size a.machine c.put_cells-c.ensures, room c.args.row.id c.args.row.first_cycle c.requires.at_in_bounds c.put_number-a.ensures c.put_after-b.ensures (a.row.cells * 10 + 1) (omega (arith, few)))
+    omega (arith, within, of_size a.machine.now c.put_cells-c.ensures, room c.args.row.id c.args.row.first_cycle c.requires.at_in_bounds c.put_number-a.ensures c.put_after-b.ensures (a.row.cells * 10 + 1) (omega (arith, few)))
 
 pub returns : goal.returns
 unfolding bytes utf8

@@ -1,9 +1,0 @@
--- As many turns as the file says that there are lists.
-use Rattle.std.proofs.Common.{◌≤◌, ◌-◌}
-use Rattle.vectors.proofs.main.Given as goal
-
-abbrev pub invariant-loop-i : goal.invariant-loop-i
-invariant-loop-i l = l.i ≤ l.count
-
-abbrev pub decreases-loop-i : goal.decreases-loop-i
-decreases-loop-i l = l.count - l.i
