@@ -274,7 +274,7 @@ fn proof(count: usize) -> String {
     file.push_str(
         "use mathlib.Core.Path.{◌≡◌, refl}
 use mathlib.Core.Bool.{true}
-use Rattle.laws.specs.Lists.{all}
+use Rattle.std.specs.List.{list_all}
 use Rattle.model.specs.Everything.{everything}
 use Rattle.samples.specs.Digest.{digest}
 use Rattle.samples.specs.Lists.{agrees, lists_of_calls}
@@ -302,7 +302,7 @@ agrees-{number} = refl
         .rev()
         .fold("tt".to_string(), |rest, n| format!("(agrees-{n}, {rest})"));
     file.push_str(
-        "\npub sampled : all agrees sample ≡ true\nsampled =\n    all_true agrees sample\n",
+        "\npub sampled : list_all agrees sample ≡ true\nsampled =\n    all_true agrees sample\n",
     );
     wrap(&mut file, &mut all);
     file
