@@ -16,7 +16,7 @@ use Rattle.config.specs.View.{flagged, view_unit_spec, view_spec}
 use Rattle.config.specs.Kept.{KindOk, SpecOk}
 use Rattle.config.proofs.Classes.{flag-set, takes-flagged, empty-is}
 
-module _ (u : UnitSpec) (ok : KindOk (view_unit_spec u)) {n : ℕ} (e : n ≡ max 1 u.capacity) where
+module _ (u : UnitSpec) (ok : KindOk (view_unit_spec u)) (bytes : length u.name.bytes ≡ 8) {n : ℕ} (e : n ≡ max 1 u.capacity) where
   abbrev made : Bool → List Bool → Spec
   made b flags = record { name = u.name; every = b; classes = flags; latency_class = u.latency_class; capacity = n }
 
@@ -31,6 +31,7 @@ module _ (u : UnitSpec) (ok : KindOk (view_unit_spec u)) {n : ℕ} (e : n ≡ ma
       record {
         is = ap₂ (λ cs k. unit_spec (view_text u.name) cs u.latency_class k) (sym (empty-is (flagged u.classes) h)) e;
         ok = record {
+          bytes = bytes;
           flags = refl;
           takes = flag-set;
           kind = within true (replicate 10 true);
@@ -45,6 +46,7 @@ module _ (u : UnitSpec) (ok : KindOk (view_unit_spec u)) {n : ℕ} (e : n ≡ ma
       record {
         is = ap (unit_spec (view_text u.name) (flagged u.classes) u.latency_class) e;
         ok = record {
+          bytes = bytes;
           flags = ten;
           takes = λ c. sym (takes-flagged u.classes (view_spec (made false u.classes)) refl c h);
           kind = within false u.classes;
@@ -61,6 +63,7 @@ changed k n ok e h =
     record {
       is = ap (unit_spec (view_spec k).name (view_spec k).classes k.latency_class) e;
       ok = record {
+        bytes = ok.bytes;
         flags = ok.flags;
         takes = ok.takes;
         kind = record { named = ok.kind.named; most = omega (arith, e) };

@@ -15,6 +15,7 @@ pub record KindOk (k : UnitSpec) : Type 0 where
 
 -- The flag of a class says whether the kind takes it.
 pub record SpecOk (k : Spec) : Type 0 where
+  pub bytes : length k.name.bytes ≡ 8
   pub flags : length k.classes ≡ 10
   pub takes : (c : PipelineInstructionClass) → flag k.classes c ≡ handles c (view_spec k)
   pub kind : KindOk (view_spec k)

@@ -5,7 +5,22 @@ ghost use Rattle.std.specs.Prelude.{◌≡◌, ◌||◌, not, map, length, eqb, 
 ghost use Rattle.laws.specs.Means.{Means};
 ghost use Rattle.laws.specs.Numbers.{max64};
 ghost use Rattle.std.specs.List.{list_any, list_all, position_from};
-ghost use Rattle.model.specs.Config.{timing, default_timing, extra_cycles, latency, handles, generic_unit, at_least_one, specs_or_generic, capacities, spec_index, is_execute, execute_stage, queue_depth, machine_of};
+ghost use Rattle.model.specs.Config.{
+  timing,
+  default_timing,
+  extra_cycles,
+  latency,
+  handles,
+  generic_unit,
+  at_least_one,
+  specs_or_generic,
+  capacities,
+  spec_index,
+  is_execute,
+  execute_stage,
+  queue_depth,
+  machine_of,
+};
 ghost use Rattle.model.specs.Calls.{too_big, bad_text, bad_spec_name, extra_overflows, make_refusal};
 ghost use Rattle.config.specs.View.{view_timing, flag, view_unit_spec, view_stage, view_shape, view_spec, view_specs, view_machine};
 ghost use Rattle.op.specs.Chars.{view_text};
@@ -234,7 +249,7 @@ impl UnitSpec {
     {
         let every = lists_none(&self.classes);
         Spec {
-            name: self.name,
+            name: self.name.whole(),
             every,
             classes: if every { [true; 10] } else { self.classes },
             latency_class: self.latency_class,
@@ -391,13 +406,6 @@ fn total(kinds: &[Spec]) -> u64
 }
 
 impl Machine {
-    // Of a shape that declares nothing: what an engine holds beside a refusal.
-    pub fn generic() -> Machine
-        ensures { Means view_machine MachineOk result (machine_of nothing_declared) }
-    {
-        PipelineShape::empty().machine()
-    }
-
     // The first kind that takes the class, or else kind 0.
     pub fn spec_index(&self, class: PipelineInstructionClass) -> usize
         requires { MachineOk self.now }
@@ -450,13 +458,11 @@ impl Machine {
 
     // The machine with another capacity of one kind.
     #[tactic(auto, using(crate::proofs::Machines::change_there, crate::proofs::Machines::change_most))]
-    pub fn noted(&self, kind: usize, instances: u64) -> Machine
-        requires machine_ok { MachineOk self.now }
-        requires self_value { capacity_refusal kind instances (view_machine self.now).specs ≡ None }
-        ensures { Means view_machine MachineOk result (noted kind instances (view_machine self.now)) }
+    pub fn note(&mut self, kind: usize, instances: u64)
+        requires machine_ok { MachineOk self.old }
+        requires self_value { capacity_refusal kind instances (view_machine self.old).specs ≡ None }
+        ensures { Means view_machine MachineOk self.new (noted kind instances (view_machine self.old)) }
     {
-        let mut machine = *self;
-        machine.specs[kind].capacity = instances.max(1) as u8;
-        machine
+        self.specs[kind].capacity = instances.max(1) as u8;
     }
 }

@@ -1,5 +1,34 @@
 -- Names that a caller pushes are taken or refused as the names themselves are.
-use Rattle.std.proofs.Common.{◌≡◌, ℕ, ◌<◌, ◌≤◌, min, false, ◌||◌, ltb, List, [], ◌∷◌, ◌++◌, length, take, sym, refl, ap, ◌∙◌, subst, ap₂, ⊎_elim, arith, length-append, length-take, take_all, ltb-false, le-ltb, lt-ltb}
+use Rattle.std.proofs.Common.{
+  ◌≡◌,
+  ℕ,
+  ◌<◌,
+  ◌≤◌,
+  min,
+  false,
+  ◌||◌,
+  ltb,
+  List,
+  [],
+  ◌∷◌,
+  ◌++◌,
+  length,
+  take,
+  sym,
+  refl,
+  ap,
+  ◌∙◌,
+  subst,
+  ap₂,
+  ⊎_elim,
+  arith,
+  length-append,
+  length-take,
+  take_all,
+  ltb-false,
+  le-ltb,
+  lt-ltb,
+}
 use Rattle.std.specs.Prelude.{Option}
 use lib.Seq.{take-append-le}
 use Rattle.laws.specs.Optional.{when_some}

@@ -1,5 +1,42 @@
 -- A list of names in an array: its length, its first names, and one more.
-use Rattle.std.proofs.Common.{◌≡◌, ℕ, ◌+◌, ◌-◌, ◌<◌, ◌≤◌, min, Bool, false, cond, ◌||◌, ltb, List, [], ◌∷◌, ◌++◌, map, length, take, set, replicate, sym, refl, ap, ap₂, option_map, ◌∙◌, ⊎_elim, append_assoc, append-nil, arith, length-append, length-set, length-take, take_all, take_at}
+use Rattle.std.proofs.Common.{
+  ◌≡◌,
+  ℕ,
+  ◌+◌,
+  ◌-◌,
+  ◌<◌,
+  ◌≤◌,
+  min,
+  Bool,
+  false,
+  cond,
+  ◌||◌,
+  ltb,
+  List,
+  [],
+  ◌∷◌,
+  ◌++◌,
+  map,
+  length,
+  take,
+  set,
+  replicate,
+  sym,
+  refl,
+  ap,
+  ap₂,
+  option_map,
+  ◌∙◌,
+  ⊎_elim,
+  append_assoc,
+  append-nil,
+  arith,
+  length-append,
+  length-set,
+  length-take,
+  take_all,
+  take_at,
+}
 use lib.ListN.{length-replicate, length-map, replicate-append-replicate}
 use Rattle.std.proofs.lemmas.List.{take-map}
 use Rattle.std.specs.List.{list_any}

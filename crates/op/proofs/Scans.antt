@@ -1,5 +1,37 @@
 -- The two scans of a first word: over the leading spaces, and over the word.
-use Rattle.std.proofs.Common.{◌≡◌, ℕ, ◌-◌, ◌<◌, ◌≤◌, Bool, true, false, not, ◌==◌, eqb, List, [], ◌∷◌, length, take, drop, position, unwrap_or, Some, None, sym, refl, ap, ◌∙◌, ⊎_elim, arith, one-add, length-drop, drop_of_length-le, take_all}
+use Rattle.std.proofs.Common.{
+  ◌≡◌,
+  ℕ,
+  ◌-◌,
+  ◌<◌,
+  ◌≤◌,
+  Bool,
+  true,
+  false,
+  not,
+  ◌==◌,
+  eqb,
+  List,
+  [],
+  ◌∷◌,
+  length,
+  take,
+  drop,
+  position,
+  unwrap_or,
+  Some,
+  None,
+  sym,
+  refl,
+  ap,
+  ◌∙◌,
+  ⊎_elim,
+  arith,
+  one-add,
+  length-drop,
+  drop_of_length-le,
+  take_all,
+}
 use Rattle.std.specs.List.{position_or_len}
 use Rattle.std.proofs.lemmas.List.Sums.{prefix_len-le-length}
 use Rattle.laws.specs.Texts.{Text, before}

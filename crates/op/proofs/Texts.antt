@@ -1,5 +1,35 @@
 -- A text in an array: what a length past the array's end gives, and what one within it gives.
-use Rattle.std.proofs.Common.{◌≡◌, ℕ, ◌<◌, ◌≤◌, min, true, false, ◌&&◌, eqb, nat_eq, List, [], ◌∷◌, ◌++◌, length, take, replicate, sym, refl, ap, ◌∙◌, ⊎_elim, arith, length-take, length-take-le, take_all, take-take, le-ltb, lt-ltb}
+use Rattle.std.proofs.Common.{
+  ◌≡◌,
+  ℕ,
+  ◌<◌,
+  ◌≤◌,
+  min,
+  true,
+  false,
+  ◌&&◌,
+  eqb,
+  nat_eq,
+  List,
+  [],
+  ◌∷◌,
+  ◌++◌,
+  length,
+  take,
+  replicate,
+  sym,
+  refl,
+  ap,
+  ◌∙◌,
+  ⊎_elim,
+  arith,
+  length-take,
+  length-take-le,
+  take_all,
+  take-take,
+  le-ltb,
+  lt-ltb,
+}
 use lib.ListN.{length-replicate}
 use lib.Pointwise.{pointwise}
 use Rattle.std.proofs.lemmas.List.{take-append-le}

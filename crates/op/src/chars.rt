@@ -53,6 +53,17 @@ impl<const N: usize> Chars<N> {
         }
     }
 
+    // The same, and how long its array is, which its type says.
+    pub fn whole(&self) -> Self
+        ensures is { result ≡ self.now }
+        ensures size { length result.bytes ≡ N }
+    {
+        Chars {
+            bytes: whole(&self.bytes),
+            len: self.len,
+        }
+    }
+
     // Refusal 2.
     #[tactic(auto, using(crate::proofs::Texts::bads), unfolding(crate::specs::Chars::view_text))]
     pub fn is_bad(&self) -> bool
@@ -61,6 +72,13 @@ impl<const N: usize> Chars<N> {
         let n = self.len as usize;
         N < n || has_bad_byte(&self.bytes[..n])
     }
+}
+
+fn whole<const N: usize>(bytes: &[u8; N]) -> [u8; N]
+    ensures is { result ≡ bytes.now }
+    ensures size { length result ≡ N }
+{
+    *bytes
 }
 
 fn has_bad_byte(s: &[u8]) -> bool

@@ -2,7 +2,7 @@
 use Rattle.std.proofs.Common.{get_or, arith, ◌≡◌, max}
 use Rattle.config.proofs.Specs.{changed}
 use Rattle.config.proofs.Machines.{spare, specs-read, change_there, change_most, noted-means}
-use Rattle.config.proofs.Machine.noted.Goals as goal
+use Rattle.config.proofs.Machine.note.Goals as goal
 
 pub returns : goal.returns
 returns c =
