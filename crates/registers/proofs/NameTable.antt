@@ -10,25 +10,25 @@ use mathlib.Core.List.{List, [], ◌∷◌, ◌++◌, map}
 use native.Mathlib.Omega.{arith}
 use native.Mathlib.Numerals.{add-one}
 use lib.Dec.{lit≤}
-use lib.ListN.{length, get_or, take, set, replicate, length-set, length-take, length-replicate, length-append}
-use lib.Seq.{take-take, take-set-le}
+use lib.ListN.{length, get_or, take, drop, set, replicate, length-set, length-take, length-replicate, length-append}
+use lib.Seq.{drop-nil, take-take, take-set-le}
 use borrow.Author.Tests.{lt-ltb, le-ltb}
 use Rattle.laws.specs.Means.{Means}
 use Rattle.laws.specs.Optional.{value_or, when_some}
 use Rattle.laws.specs.Texts.{Text, same, bytes}
 use Rattle.laws.proofs.Tests.{lt-or-ge, not_yes, not-no}
 use Rattle.laws.proofs.Choices.{none-some, some_inj}
-use Rattle.laws.proofs.Slices.{seen-nth, view-next, view-length, map-set, nth-take, nth_end, All-get_or, All-set, All-take, All-replicate}
+use Rattle.laws.proofs.Slices.{seen-nth, view-next, view-length, map-set, nth-take, nth_end, All-get_or, All-set, All-take, All-drop, All-replicate}
 use Rattle.laws.proofs.Shift.{view-pushed}
 use Rattle.model.specs.Registers.{interned, intern, get, name_of}
-use Rattle.runs.proofs.Names.{Distinct}
+use Rattle.runs.proofs.Names.{Apart, Distinct}
 use Rattle.op.specs.Chars.{view_text}
 use Rattle.op.proofs.Firsts.{take-least}
 use Rattle.op.proofs.Texts.{shown-long, shown-short}
 use Rattle.registers.specs.declared.RegisterTable.{RegisterTable}
 use Rattle.registers.specs.View.{view_known, view_held, table_of, view_table, NameOk, TableOk}
 use Rattle.registers.specs.Promises.{InternedTo}
-use Rattle.registers.proofs.Interning.{number-most, names-held, names-new, get-held, get-new, intern-distinct}
+use Rattle.registers.proofs.Interning.{same-yes, intern-here, intern-behind, number-most, names-held, names-new, get-held, get-new, intern-distinct}
 
 -- What a read past the end would give.
 abbrev pub spare : (Chars 16)
@@ -83,12 +83,12 @@ module _ {t : RegisterTable} (ok : TableOk t) where
   unnamed h e = record { is = e ∙ sym (ap (value_or (bytes "?")) (nth_end (view_held t) (omega (arith, held-length)))); ok = rw e (lit≤ tt) }
 
 -- No name yet.
-pub empty-table : (x : Chars 16) → view_text x ≡ [] → Means view_table TableOk (record { names = replicate 256 x; known = 0; held = 0 }) (table_of [] [])
+pub empty-table : (x : Chars 16) → view_text x ≡ [] → Means view_table TableOk (record { names = replicate 256 x; hints = replicate 1024 0; known = 0; held = 0 }) (table_of [] [])
 unfolding view_known view_held
 empty-table x e =
     record {
       is = refl;
-      ok = record { known = omega arith; held = omega arith; size = refl; each = All-replicate NameOk 256 x (rw e (lit≤ tt)); distinct = tt };
+      ok = record { known = omega arith; held = omega arith; size = refl; hints = refl; each = All-replicate NameOk 256 x (rw e (lit≤ tt)); distinct = tt };
     }
 
 -- ── The search ────────────────────────────────────────────────────────────────
@@ -130,10 +130,39 @@ module _ (ns : List Text) (a : Text) where
       (λ h. let q : (intern ns a).number ≡ length ns = omega (arith, number-most a ns, h) in ap₂ interned q (names-new a ns h))
       (lt-or-ge (intern ns a).number (length ns))
 
+-- ── A hint ──────────────────────────────────────────────────────────────────
+
+apart-drop : (x v : Text) (xs : List Text) (k : ℕ) {rest : List Text} → Apart x xs → drop k xs ≡ v ∷ rest → same x v ≡ false
+apart-drop x v xs k d p = (subst (Apart x) p (All-drop (λ (y : Text). same x y ≡ false) k xs d)).0
+
+-- In a table of distinct names the place of a name is its number.
+only-place : (a v : Text) (ns : List Text) (k : ℕ) {rest : List Text} → Distinct ns → drop k ns ≡ v ∷ rest → same v a ≡ true
+    → k ≡ (intern ns a).number
+only-place a v [] k {rest} d p e =
+    let z : ◌≡◌ {A = ℕ} 0 (suc (length rest)) = ap length (sym (drop-nil {A = Text} k) ∙ p) in absurd (let y : ⊥ = omega arith in y)
+only-place a v (x ∷ xs) zero d p e =
+    let q : x ≡ v = ap (λ (l : List Text). get_or l 0 x) p in
+    sym (ap (λ r. r.number) (intern-here a x xs (subst (λ y. same y a ≡ true) (sym q) e)))
+only-place a v (x ∷ xs) (suc k) d p e =
+    let f : same x a ≡ false = subst (λ y. same x y ≡ false) (same-yes v a e) (apart-drop x v xs k d.0 p) in
+    ap suc (only-place a v xs k d.1 p e) ∙ sym (ap (λ r. r.number) (intern-behind a x xs f))
+
+module _ {t : RegisterTable} (ok : TableOk t) where
+  -- A hint is right where the name stands there.
+  pub hint_right : (a : Text) {h : ℕ} → h < t.held → same (view_text (get_or t.names h spare)) a ≡ true
+      → position_from (λ x. same (view_text x) a) 0 (take t.held t.names) ≡ Some h
+  unfolding view_held
+  hint_right a {h} l e =
+      let s = view-next view_text t.names spare (room ok) l in
+      sym (get_position a t.held t.names)
+      ∙ get-held a (view_held t) (omega (arith, only-place a _ (view_held t) h ok.distinct s.is e, held-length ok, l))
+      ∙ ap Some (sym (only-place a _ (view_held t) h ok.distinct s.is e))
+
 -- ── One name more ─────────────────────────────────────────────────────────────
 
-abbrev put : RegisterTable → Chars 16 → RegisterTable
-put t x = record { names = set t.names t.held x; known = t.known; held = t.held + 1 }
+-- Behind the others, with a hint in a bucket.
+abbrev put : RegisterTable → Chars 16 → ℕ → RegisterTable
+put t x b = record { names = set t.names t.held x; hints = set t.hints b t.held; known = t.known; held = t.held + 1 }
 
 module _ {t : RegisterTable} (ok : TableOk t) where
   pub interned-held : (a : Text) {k : ℕ} → get (view_held t) a ≡ Some k → InternedTo t a t (Some k)
@@ -161,9 +190,9 @@ module _ {t : RegisterTable} (ok : TableOk t) where
           ok = ok;
         }
 
-    pub interned-new : NameOk x → t.held < 256 → InternedTo t (view_text x) (put t x) (Some t.held)
+    pub interned-new : (b : ℕ) → NameOk x → t.held < 256 → InternedTo t (view_text x) (put t x b) (Some t.held)
     unfolding view_held view_known
-    interned-new fits h =
+    interned-new b fits h =
         record {
           fits = sym (not_yes (le-ltb 256 (length (intern (view_held t) (view_text x)).names) (omega (arith, longer, h, ok.held))));
           is = λ j p. ap₂ interned (sym (some_inj t.held j p)) held ∙ sym (get_none (view_held t) (view_text x) e ∙ ap (λ n. interned n (view_held t ++ view_text x ∷ [])) (held-length ok));
@@ -174,6 +203,7 @@ module _ {t : RegisterTable} (ok : TableOk t) where
                 known = omega (arith, ok.known);
                 held = omega (arith, h, ok.held);
                 size = length-set t.names t.held x ∙ ok.size;
+                hints = length-set t.hints b t.held ∙ ok.hints;
                 each = All-set NameOk t.names t.held x ok.each fits;
                 distinct =
                     subst Distinct (ap (λ r. r.names) (get_none (view_held t) (view_text x) e) ∙ sym held)
@@ -181,7 +211,7 @@ module _ {t : RegisterTable} (ok : TableOk t) where
               };
         }
       where
-        held : view_held (put t x) ≡ view_held t ++ view_text x ∷ []
+        held : view_held (put t x b) ≡ view_held t ++ view_text x ∷ []
         held = view-pushed view_text t.names t.held x (omega (arith, ok.size, ok.held, h))
 
 -- ── The counts ────────────────────────────────────────────────────────────────
@@ -194,7 +224,7 @@ distinct-take (suc n) (x ∷ xs) d = (All-take (λ (y : Text). same x y ≡ fals
 module _ {t : RegisterTable} (ok : TableOk t) where
   -- The first n of the names held are known.
   pub raised : (n : ℕ) {k : ℕ} → k ≡ min n t.held
-      → Means view_table TableOk (record { names = t.names; known = k; held = t.held }) (table_of (take n (view_held t)) (view_held t))
+      → Means view_table TableOk (record { names = t.names; hints = t.hints; known = k; held = t.held }) (table_of (take n (view_held t)) (view_held t))
   unfolding view_known view_held
   raised n {k} e =
       record {
@@ -202,11 +232,11 @@ module _ {t : RegisterTable} (ok : TableOk t) where
             ap (λ l. table_of l (view_held t))
             (sym (take-take k t.held (map view_text t.names) (omega arith))
             ∙ take-least (view_held t) n {k = k} (rw (held-length ok) e));
-        ok = record { known = omega arith; held = ok.held; size = ok.size; each = ok.each; distinct = ok.distinct };
+        ok = record { known = omega arith; held = ok.held; size = ok.size; hints = ok.hints; each = ok.each; distinct = ok.distinct };
       }
 
   -- Only the names known are held.
-  pub lowered : Means view_table TableOk (record { names = t.names; known = t.known; held = t.known }) (table_of (view_known t) (view_known t))
+  pub lowered : Means view_table TableOk (record { names = t.names; hints = t.hints; known = t.known; held = t.known }) (table_of (view_known t) (view_known t))
   unfolding view_known view_held
   lowered =
       record {
@@ -216,6 +246,7 @@ module _ {t : RegisterTable} (ok : TableOk t) where
               known = omega arith;
               held = omega (arith, ok.known, ok.held);
               size = ok.size;
+              hints = ok.hints;
               each = ok.each;
               distinct = subst Distinct (sym (known-held ok)) (distinct-take t.known (view_held t) ok.distinct);
             };

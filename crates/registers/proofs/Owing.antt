@@ -17,24 +17,13 @@ use lib.Seq.{take-set-lt, drop-set-lt, set-get_or, drop-drop, length-take-le}
 use Rattle.laws.specs.Means.{Means}
 use Rattle.laws.specs.Lists.{All, modify}
 use Rattle.laws.specs.Texts.{Text}
-use Rattle.laws.proofs.Tests.{lt-or-ge, cond-lt, cond-ge, cond_yes, cond_no}
+use Rattle.laws.proofs.Tests.{lt-or-ge, cond_yes, cond_no}
 use Rattle.laws.proofs.Slices.{slice-next, seen-modify, modify-end, view-length, All-drop, All-replicate}
 use Rattle.model.specs.Registers.{pad, producer_of, release_held, outstanding}
 use Rattle.model.specs.Issue.{taken, waits_on}
 use Rattle.registers.specs.declared.Claims.{Claims}
 use Rattle.registers.specs.declared.Waits.{Waits}
-use Rattle.registers.specs.View.{claimed, view_claims, ClaimsOk, view_owed, view_waits, WaitsOk}
-
--- ── A byte ────────────────────────────────────────────────────────────────────
-
-module _ {u : ℕ} where
-  pub claimed-some : u < 64 → claimed u ≡ Some u
-  unfolding claimed
-  claimed-some h = cond-lt _ _ h
-
-  pub claimed-none : 64 ≤ u → claimed u ≡ None
-  unfolding claimed
-  claimed-none h = cond-ge _ _ h
+use Rattle.registers.specs.View.{view_claims, ClaimsOk, view_owed, view_waits, WaitsOk}
 
 -- ── One register ──────────────────────────────────────────────────────────────
 

@@ -1,46 +1,29 @@
 -- The table along a queue: what each of its methods leaves of the names known, the names held, and the numbers kept with queued operations.
 use Prim.Native.Nat.{ℕ, max}
 use mathlib.Core.Path.{◌≡◌, sym, subst, ap, ap₂, ◌∙◌}
-use mathlib.Core.Bool.{not}
-use Rattle.std.specs.Prelude.{Option, Some, is_some}
-use mathlib.Core.List.{List, [], ◌∷◌, ◌++◌, map}
-use lib.Dec.{ltb}
-use lib.ListN.{length, take, replicate, length-replicate}
+use Rattle.std.specs.Prelude.{Option, Some}
+use mathlib.Core.List.{List, [], ◌∷◌, ◌++◌}
+use lib.ListN.{take, replicate, length-replicate}
 use Rattle.laws.specs.Means.{Means}
 use Rattle.laws.specs.Texts.{Text}
-use Rattle.model.specs.Op.{Info, Op}
-use Rattle.model.specs.State.{State}
-use Rattle.model.specs.Calls.{names_with}
-use Rattle.model.specs.Registers.{intern_all, resolve, pad}
+use Rattle.model.specs.Op.{Info}
+use Rattle.model.specs.Registers.{resolve, pad}
 use Rattle.registers.specs.declared.RegisterTable.{RegisterTable}
 use Rattle.registers.specs.declared.Operands.{Operands}
 use Rattle.registers.specs.View.{view_known, view_held, table_of, view_table, TableOk, view_operands}
 use Rattle.registers.specs.Promises.{ResolvedTo}
-use Rattle.registers.specs.Look.{through, Numbers, numbers_of, queue_names, Queued}
+use Rattle.registers.specs.Look.{through, Numbers, numbers_of, Queued}
 use Rattle.registers.proofs.NameTable.{known-length}
 use Rattle.registers.proofs.Owing.{pad-length}
-use Rattle.registers.proofs.Look.{queue-laws, queue_names-in}
+use Rattle.registers.proofs.Look.{queue-laws}
 
 -- The queue q with the numbers ks, over the table.
 abbrev pub Along : RegisterTable → List Info → List Numbers → Type 0
 Along t q ks = Queued (view_known t) (view_held t) q ks
 
 module _ {t : RegisterTable} {q : List Info} {ks : List Numbers} (e : Along t q ks) where
-  -- A fetch: it fits where the model counts at most 256 names, and then the queue has one operation more.
+  -- A fetch: the queue has one operation more.
   module _ {i : Info} {u : RegisterTable} {r : Option Operands} (f : ResolvedTo t i u r) where
-    fetch-fits : is_some r ≡ not (ltb 256 (length (intern_all (view_known t) (queue_names q ++ (i.sources ++ i.writes))).names))
-    fetch-fits =
-        f.fits
-        ∙ ap (λ l. not (ltb 256 (length l))) (sym (queue-laws.counted (view_known t) (view_held t) q ks (i.sources ++ i.writes) e))
-
-    -- That is refusal 10, where the table knows the engine's names and q is its queue.
-    pub fetch-refused : (s : State) → view_known t ≡ s.names → q ≡ map (λ (o : Op). o.info) s.queue → is_some r ≡ not (ltb 256 (names_with s i))
-    unfolding names_with
-    fetch-refused s known queue =
-        fetch-fits
-        ∙ ap₂ (λ ns l. not (ltb 256 (length (intern_all ns (l ++ (i.sources ++ i.writes))).names))) known
-        (ap queue_names queue ∙ sym (queue_names-in s.queue))
-
     pub fetch-queued : (x : Operands) → r ≡ Some x → Along u (q ++ i ∷ []) (ks ++ view_operands x ∷ [])
     fetch-queued x h =
         subst (λ ns. Queued ns (view_held u) (q ++ i ∷ []) (ks ++ view_operands x ∷ [])) (sym f.known)

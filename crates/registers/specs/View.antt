@@ -1,5 +1,5 @@
 -- What the structs mean to the model, and when they are well formed.
-use Rattle.std.specs.Prelude.{ℕ, ◌≤◌, ◌≡◌, cond, List, [], map, ltb, length, take, drop, Option, None, Some}
+use Rattle.std.specs.Prelude.{ℕ, ◌≤◌, ◌≡◌, List, [], map, length, take, drop, Option, None}
 use Rattle.laws.specs.Lists.{All}
 use Rattle.laws.specs.Texts.{Text}
 use Rattle.runs.proofs.Names.{Distinct}
@@ -43,14 +43,11 @@ pub record TableOk (t : RegisterTable) : Type 0 where
   pub known : t.known ≤ t.held
   pub held : t.held ≤ 256
   pub size : length t.names ≡ 256
+  pub hints : length t.hints ≡ 1024
   pub each : All NameOk t.names
   pub distinct : Distinct (view_held t)
 
 -- ── Claims ────────────────────────────────────────────────────────────────────
-
--- The unit that a byte stands for: 64 and above are nobody.
-unfoldable pub claimed : ℕ → Option ℕ
-claimed u = cond (ltb u 64) (Some u) None
 
 -- The model's producers: for each register the unit that owes it, if one does.
 unfoldable pub view_claims : Claims → List (Option ℕ)
@@ -95,5 +92,5 @@ pub record OperandsOk (x : Operands) : Type 0 where
 
 -- All of these unfold where a line says `unfolding views`.
 unfoldable pub views : Unit {0}
-unfolding view_known view_held claimed view_claims view_owed view_waits
+unfolding view_known view_held view_claims view_owed view_waits
 views = tt

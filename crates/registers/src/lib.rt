@@ -10,12 +10,12 @@ mod producers;
 // The methods of RegisterTable.
 mod table;
 
-pub use table::first;
-
-// Names by number, in order of first fetch. The first `known` have been looked at; the first `held` also count those of queued operations.
+// Names by number, in order of first fetch. The first `known` have been looked at; the first `held` also count those of queued operations. A name's
+// bucket hints at the number that it may have.
 #[derive(Clone, Copy)]
 pub struct RegisterTable {
     pub names: [Name; 256],
+    pub hints: [u8; 1024],
     pub known: usize,
     pub held: usize,
 }

@@ -20,17 +20,22 @@ impl RegisterTable {
     {
         RegisterTable {
             names: [Name::empty(); 256],
+            hints: [0; 1024],
             known: 0,
             held: 0,
         }
     }
 
-    // The place of a name among those held.
+    // The place of a name among those held: that of its bucket's hint, if the name stands there, or else by a search. A hint may be any number.
     fn place(&self, name: Name) -> Option<usize>
         requires { TableOk self.now }
         ensures is { result ≡ position_from (λ x. same (view_text x) (view_text name)) 0 (take self.now.held self.now.names) }
         ensures few { IfSome result (λ k. k < 256) }
     {
+        let hint = self.hints[bucket(name)] as usize;
+        if hint < self.held && self.names[hint] == name {
+            return Some(hint);
+        }
         self.names[..self.held].iter().position(|x| *x == name)
     }
 
@@ -68,6 +73,7 @@ impl RegisterTable {
         }
         let number = self.held as u8;
         self.names[self.held] = name;
+        self.hints[bucket(name)] = number;
         self.held += 1;
         Some(number)
     }
@@ -145,6 +151,17 @@ impl RegisterTable {
     }
 }
 
+// Where the hint of a name stands: a hash of its bytes.
+fn bucket(name: Name) -> usize
+    ensures { result < 1024 }
+{
+    let mut hash: usize = 0;
+    for byte in &name.bytes {
+        hash = (hash * 37 + *byte as usize) % 1024;
+    }
+    hash
+}
+
 // The names of an operation's reads.
 fn reads(op: &PipelineOp) -> &[Name]
     requires op_value { bad_info (view_op op.now).info ≡ false }
@@ -164,7 +181,7 @@ fn writes(op: &PipelineOp) -> &[Name]
 }
 
 // The first n names of an array.
-pub fn first<const N: usize>(names: &[Name; N], n: u8) -> &[Name]
+fn first<const N: usize>(names: &[Name; N], n: u8) -> &[Name]
     ensures size { length names.now ≡ N }
     ensures is { result.now ≡ take n names.now }
 {

@@ -9,4 +9,4 @@ pub returns-then-self-ge256 : goal.returns-then-self-ge256
 returns-then-self-ge256 c = interned-full c.requires.table_ok _ (sym c.get.ensures ∙ c.in_default.is) c.if-self-ge256.true
 
 pub returns : goal.returns
-returns c = interned-new c.requires.table_ok _ (sym c.get.ensures ∙ c.in_default.is) c.requires.name_ok c.if-self-ge256.false
+returns c = interned-new c.requires.table_ok _ (sym c.get.ensures ∙ c.in_default.is) _ c.requires.name_ok c.if-self-ge256.false
