@@ -20,7 +20,22 @@ use Rattle.timeline.specs.declared.Tracks.{Tracks}
 use Rattle.timeline.specs.declared.RowTexts.{RowTexts}
 use Rattle.timeline.specs.declared.PipelineTimelineRow.{PipelineTimelineRow}
 use Rattle.timeline.specs.declared.Window.{Window}
-use Rattle.timeline.specs.View.{row_at, first_track, no_text, view_rows, WindowOk, TracksOk, RowTextOk, RowTextsOk, SlotOf, shown, view_row, row_answer, ShowsRow, ShowsText}
+use Rattle.timeline.specs.View.{
+  row_at,
+  first_track,
+  no_text,
+  view_rows,
+  WindowOk,
+  TracksOk,
+  RowTextOk,
+  RowTextsOk,
+  SlotOf,
+  shown,
+  view_row,
+  row_answer,
+  ShowsRow,
+  ShowsText,
+}
 use Rattle.timeline.proofs.Grows.{spare, spare-text}
 use Rattle.timeline.proofs.Steps.{rows_end, rows-nth}
 use Rattle.timeline.specs.Cells.{bare, cell_reply}

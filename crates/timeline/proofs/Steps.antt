@@ -17,7 +17,25 @@ use Rattle.timeline.specs.declared.Tracks.{Tracks}
 use Rattle.timeline.specs.declared.RowText.{RowText}
 use Rattle.timeline.specs.declared.RowTexts.{RowTexts}
 use Rattle.timeline.specs.declared.Window.{Window}
-use Rattle.timeline.specs.View.{from, row_at, first_track, no_text, held_row, view_rows, WindowOk, TrackOk, TracksOk, RowTextsOk, all_tracks, all_texts, no_rows, opened, SlotOf, Grown, Pushed}
+use Rattle.timeline.specs.View.{
+  from,
+  row_at,
+  first_track,
+  no_text,
+  held_row,
+  view_rows,
+  WindowOk,
+  TrackOk,
+  TracksOk,
+  RowTextsOk,
+  all_tracks,
+  all_texts,
+  no_rows,
+  opened,
+  SlotOf,
+  Grown,
+  Pushed,
+}
 use Rattle.timeline.proofs.Memory.{splice-set}
 use Rattle.timeline.proofs.Slots.{apart, Held}
 use Rattle.timeline.proofs.Rows.{from-length, from-nth, from-same, with_row, with-row-other, from-push, from-writes, from-no-writes, from-open}

@@ -1,6 +1,31 @@
 -- What the parts mean to the model: together they are its list of rows, oldest first.
 use Rattle.op.specs.declared.chars.Chars.{Chars}
-use Rattle.std.specs.Prelude.{ℕ, zero, suc, ◌+◌, ◌-◌, ◌%◌, ◌≤◌, ◌<◌, min, ◌≡◌, false, cond, List, [], ◌∷◌, ltb, length, get_or, replicate, Option, None, Some, slice_get, option_map}
+use Rattle.std.specs.Prelude.{
+  ℕ,
+  zero,
+  suc,
+  ◌+◌,
+  ◌-◌,
+  ◌%◌,
+  ◌≤◌,
+  ◌<◌,
+  min,
+  ◌≡◌,
+  false,
+  cond,
+  List,
+  [],
+  ◌∷◌,
+  ltb,
+  length,
+  get_or,
+  replicate,
+  Option,
+  None,
+  Some,
+  slice_get,
+  option_map,
+}
 use Rattle.laws.specs.Lists.{All}
 use Rattle.capability.specs.declared.PipelineInstructionClass.TheVariants.{Unknown}
 use Rattle.op.specs.Chars.{view_text, Fits}

@@ -3,7 +3,18 @@ use Rattle.std.specs.Prelude.{ℕ, None, Some}
 use Rattle.laws.specs.Texts.{Text}
 use Rattle.model.specs.Traces.{Detail, overwrites, memory_order, drains, waits_for, behind_branch, behind_system, still_writes, all_busy, redirect_to}
 use Rattle.timeline.specs.declared.WaitForm.{WaitForm}
-use Rattle.timeline.specs.declared.WaitForm.TheVariants.{Overwrites, MemoryOrder, Drains, WaitsFor, WaitsForOlder, BehindBranch, BehindSystem, StillWrites, AllBusy, RedirectTo}
+use Rattle.timeline.specs.declared.WaitForm.TheVariants.{
+  Overwrites,
+  MemoryOrder,
+  Drains,
+  WaitsFor,
+  WaitsForOlder,
+  BehindBranch,
+  BehindSystem,
+  StillWrites,
+  AllBusy,
+  RedirectTo,
+}
 
 -- Of the words: mine, register or kind, other; and the target.
 unfoldable pub detail_of : WaitForm → Text → Text → Text → ℕ → Detail

@@ -8,10 +8,32 @@ use op::Text;
 // The lent cell memory, and the view of a cell.
 pub mod cells;
 
-ghost use Rattle.std.specs.Prelude.{◌≡◌, ◌+◌, ◌-◌, ◌*◌, ◌%◌, ◌<◌, ◌≤◌, max, length, set, replicate, slice_get};
+ghost use Rattle.std.specs.Prelude.{◌≡◌, ◌+◌, ◌-◌, ◌*◌, ◌%◌, ◌<◌, ◌≤◌, max, length, set, replicate, slice_get, IfSome};
 ghost use Rattle.laws.specs.Means.{Means};
 ghost use Rattle.laws.specs.Numbers.{max64};
-ghost use Rattle.timeline.specs.View.{first_track, no_text, view_rows, WindowOk, TrackOk, TracksOk, RowTextOk, RowTextsOk, all_tracks, all_texts, the_window, no_rows, opened, SlotOf, slot_held, Grown, ShowsRow, ShowsText};
+ghost use Rattle.model.specs.Timeline.{write_all, push_writes, open_writes};
+ghost use Rattle.timeline.specs.declared.RowTexts.{RowTexts};
+ghost use Rattle.timeline.specs.View.{
+  first_track,
+  no_text,
+  view_rows,
+  WindowOk,
+  TrackOk,
+  TracksOk,
+  RowTextOk,
+  RowTextsOk,
+  all_tracks,
+  all_texts,
+  the_window,
+  no_rows,
+  opened,
+  SlotOf,
+  slot_held,
+  Grown,
+  Pushed,
+  ShowsRow,
+  ShowsText,
+};
 
 // What a wait of a cycle is for (`Trace`). WaitsForOlder is WaitsFor without a producer.
 #[derive(Clone, Copy)]
@@ -119,7 +141,8 @@ impl Window {
     #[tactic(auto, unfolding(crate::specs::View::slot_held))]
     pub fn find(&self, id: u64) -> Option<usize>
         requires { WindowOk self.now }
-        ensures { result ≡ slot_held self.now id }
+        ensures is { result ≡ slot_held self.now id }
+        ensures below { IfSome result (λ s. s < 256) }
     {
         let first = self.next - self.held as u64;
         if first <= id && id < self.next {
@@ -182,6 +205,36 @@ impl Tracks {
     {
         Tracks {
             items: [Track::first(0); 256],
+        }
+    }
+
+    // Timeline::open, what moves: the row of id `next`, its 200 bytes set to 255 and then its first cell, IF.
+    pub fn open(&mut self, window: Window, cycle: u64, cells: &mut [u8])
+        requires window_ok { WindowOk window }
+        requires tracks_ok { TracksOk self.old }
+        requires history_in_bounds { window.history * 200 ≤ length cells.old }
+        ensures tracks { Means all_tracks TracksOk self.new (set self.old.items (window.next % window.history) (first_track cycle)) }
+        ensures memory { cells.new ≡ write_all (open_writes window.history window.next) cells.old }
+    {
+        let s = window.slot(window.next);
+        let at = s * 200;
+        cells[at..at + 200].fill(255);
+        cells[at] = 0;
+        self.items[s] = Track::first(cycle);
+    }
+
+    // Timeline::push: a cell's byte to the row of an id; nothing where it is no longer held.
+    pub fn push(&mut self, window: Window, id: u64, byte: u8, cells: &mut [u8])
+        requires window_ok { WindowOk window }
+        requires tracks_ok { TracksOk self.old }
+        requires history_in_bounds { window.history * 200 ≤ length cells.old }
+        ensures tracks { Pushed window id self.old self.new }
+        ensures memory { (xs : RowTexts) → cells.new ≡ write_all (push_writes window.history id byte (view_rows window self.old xs)) cells.old }
+    {
+        if let Some(s) = window.find(id) {
+            let mut t = self.items[s];
+            t.push(s, byte, cells);
+            self.items[s] = t;
         }
     }
 }
