@@ -1,6 +1,34 @@
 -- A queue is its entries: what they are settles what the queue is to the model.
 use Rattle.capability.specs.declared.PipelineHazardKind.{PipelineHazardKind}
-use Rattle.std.proofs.Common.{Option, None, ℕ, zero, suc, ◌+◌, ◌-◌, ◌≤◌, ◌<◌, ◌≡◌, refl, sym, ap, subst, ◌∙◌, List, [], ◌∷◌, ◌++◌, map, arith, length, get_or, set, take, drop, zero-add}
+use Rattle.std.proofs.Common.{
+  Option,
+  None,
+  ℕ,
+  zero,
+  suc,
+  ◌+◌,
+  ◌-◌,
+  ◌≤◌,
+  ◌<◌,
+  ◌≡◌,
+  refl,
+  sym,
+  ap,
+  subst,
+  ◌∙◌,
+  List,
+  [],
+  ◌∷◌,
+  ◌++◌,
+  map,
+  arith,
+  length,
+  get_or,
+  set,
+  take,
+  drop,
+  zero-add,
+}
 use lib.ListN.{length-set, length-append, length-drop}
 use lib.Seq.{length-take-le, paste, length-paste, take-nil, take-paste, take_at}
 use Rattle.std.proofs.lemmas.List.{take_all}

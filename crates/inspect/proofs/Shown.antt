@@ -17,7 +17,21 @@ use Rattle.capability.specs.declared.PipelineTraceKind.TheVariants.{Hazard}
 use Rattle.model.specs.Config.{latency}
 use Rattle.model.specs.Units.{unit_op}
 use Rattle.model.specs.State.{State}
-use Rattle.model.specs.Views.{SlotView, slot_view, StageView, stage_roles, stage_op, stage_view, UnitView, in_kind, working, shown_class, unit_view_of, unit_view, trace_view}
+use Rattle.model.specs.Views.{
+  SlotView,
+  slot_view,
+  StageView,
+  stage_roles,
+  stage_op,
+  stage_view,
+  UnitView,
+  in_kind,
+  working,
+  shown_class,
+  unit_view_of,
+  unit_view,
+  trace_view,
+}
 use Rattle.config.specs.declared.Machine.{Machine}
 use Rattle.config.specs.declared.Spec.{Spec}
 use Rattle.config.specs.View.{view_spec, view_machine}

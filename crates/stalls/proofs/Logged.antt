@@ -15,12 +15,37 @@ use Rattle.capability.specs.declared.PipelineHazardKind.TheVariants.{BranchFlush
 use Rattle.model.specs.State.{Stats, Log as ModelLog, log_of, count_stall, count_stalls, stall_all, with_stats, with_traces}
 use Rattle.model.specs.Traces.{trace_of, redirect_to, FETCH, WRITE}
 use Rattle.timeline.specs.declared.WaitForm.{WaitForm}
-use Rattle.timeline.specs.declared.WaitForm.TheVariants.{Overwrites, MemoryOrder, Drains, WaitsFor, WaitsForOlder, BehindBranch, BehindSystem, StillWrites, AllBusy, RedirectTo}
+use Rattle.timeline.specs.declared.WaitForm.TheVariants.{
+  Overwrites,
+  MemoryOrder,
+  Drains,
+  WaitsFor,
+  WaitsForOlder,
+  BehindBranch,
+  BehindSystem,
+  StillWrites,
+  AllBusy,
+  RedirectTo,
+}
 use Rattle.timeline.specs.Waits.{detail_of}
 use Rattle.stalls.specs.declared.Trace.{Trace}
 use Rattle.stalls.specs.declared.TraceList.{TraceList}
 use Rattle.stalls.specs.declared.Log.{Log}
-use Rattle.stalls.specs.View.{form_kind, form_from, form_to, word_at, number_word, Frame, view_trace, listed, view_traces, view_stats, view_log, TraceListOk, logs}
+use Rattle.stalls.specs.View.{
+  form_kind,
+  form_from,
+  form_to,
+  word_at,
+  number_word,
+  Frame,
+  view_trace,
+  listed,
+  view_traces,
+  view_stats,
+  view_log,
+  TraceListOk,
+  logs,
+}
 use Rattle.stalls.specs.Promises.{is_redirect, NoRedirect, redirect_trace, Lists, Logs}
 
 -- ── The list ────────────────────────────────────────────────────────────────

@@ -12,7 +12,18 @@ use Rattle.model.specs.Traces.{Trace as Wait, trace_of, FETCH, ISSUE, READ, EXEC
 use Rattle.model.specs.State.{Stats, stats_of, Log as ModelLog, log_of}
 use Rattle.flight.specs.View.{Legend, carried_at}
 use Rattle.timeline.specs.declared.WaitForm.{WaitForm}
-use Rattle.timeline.specs.declared.WaitForm.TheVariants.{Overwrites, MemoryOrder, Drains, WaitsFor, WaitsForOlder, BehindBranch, BehindSystem, StillWrites, AllBusy, RedirectTo}
+use Rattle.timeline.specs.declared.WaitForm.TheVariants.{
+  Overwrites,
+  MemoryOrder,
+  Drains,
+  WaitsFor,
+  WaitsForOlder,
+  BehindBranch,
+  BehindSystem,
+  StillWrites,
+  AllBusy,
+  RedirectTo,
+}
 use Rattle.timeline.specs.Waits.{detail_of}
 use Rattle.stalls.specs.declared.Trace.{Trace}
 use Rattle.stalls.specs.declared.TraceList.{TraceList}

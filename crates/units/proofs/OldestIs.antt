@@ -1,6 +1,38 @@
 -- What `oldest_busy` hands back is the place of the busy unit of the least number, the first of equals, or no unit is busy.
 --     BestOf ys i b     the same of the best b of the first i units, as the fold over the list keeps it
-use Rattle.std.proofs.Common.{Option, None, Some, ℕ, suc, ◌+◌, ◌-◌, ◌≤◌, ◌<◌, ◌≡◌, refl, sym, ◌∙◌, ap, subst, Bool, true, false, cond, ◌&&◌, List, [], ◌∷◌, add-zero, zero-add, arith, option_map, slice_get, length, drop, get_or}
+use Rattle.std.proofs.Common.{
+  Option,
+  None,
+  Some,
+  ℕ,
+  suc,
+  ◌+◌,
+  ◌-◌,
+  ◌≤◌,
+  ◌<◌,
+  ◌≡◌,
+  refl,
+  sym,
+  ◌∙◌,
+  ap,
+  subst,
+  Bool,
+  true,
+  false,
+  cond,
+  ◌&&◌,
+  List,
+  [],
+  ◌∷◌,
+  add-zero,
+  zero-add,
+  arith,
+  option_map,
+  slice_get,
+  length,
+  drop,
+  get_or,
+}
 use Rattle.std.proofs.lemmas.List.{drop_all}
 use Rattle.laws.proofs.Slices.{list-next}
 use mathlib.Core.Logic.{⊎_elim}

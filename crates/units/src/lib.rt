@@ -13,7 +13,21 @@ pub mod lent;
 ghost use Rattle.std.specs.Prelude.{◌≡◌, not, ◌&&◌, ℕ, ◌<◌, eqb};
 ghost use Rattle.laws.specs.Lists.{elem};
 ghost use Rattle.model.specs.Config.{is_memory, is_system};
-ghost use Rattle.model.specs.Units.{idle_unit, clear, seq_of, in_phase, with_busy, clear_hazard, mark_hazard, without_waits, tick, begin, waits, read_one, occupy};
+ghost use Rattle.model.specs.Units.{
+  idle_unit,
+  clear,
+  seq_of,
+  in_phase,
+  with_busy,
+  clear_hazard,
+  mark_hazard,
+  without_waits,
+  tick,
+  begin,
+  waits,
+  read_one,
+  occupy,
+};
 ghost use Rattle.model.specs.Write.{reads, older_memory};
 ghost use Rattle.model.specs.Issue.{is_free, phase_label, unit_cell};
 ghost use Rattle.registers.specs.View.{view_waits, WaitsOk, read, written};
