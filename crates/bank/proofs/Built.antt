@@ -1,5 +1,33 @@
 -- The units of a machine, kind by kind.
-use Rattle.std.proofs.Common.{ℕ, zero, suc, ◌+◌, ◌≤◌, ◌<◌, ◌≡◌, sym, ap, subst, ◌∙◌, map, get_or, List, [], ◌∷◌, ◌++◌, append_assoc, arith, length, take, drop, set, replicate, add-zero, zero-add, add-one}
+use Rattle.std.proofs.Common.{
+  ℕ,
+  zero,
+  suc,
+  ◌+◌,
+  ◌≤◌,
+  ◌<◌,
+  ◌≡◌,
+  sym,
+  ap,
+  subst,
+  ◌∙◌,
+  map,
+  get_or,
+  List,
+  [],
+  ◌∷◌,
+  ◌++◌,
+  append_assoc,
+  arith,
+  length,
+  take,
+  drop,
+  set,
+  replicate,
+  add-zero,
+  zero-add,
+  add-one,
+}
 use mathlib.Core.Path.{ap₂}
 use mathlib.Core.List.{append-nil}
 use lib.ListN.{replicate-append-replicate, length-append, length-replicate}

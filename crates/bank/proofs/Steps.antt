@@ -1,5 +1,36 @@
 -- The units read and written by place, and the loops that change each.
-use Rattle.std.proofs.Common.{Bool, true, false, cond, not, ◌||◌, count_by, zero-add, ℕ, ◌+◌, ◌≤◌, ◌<◌, ◌≡◌, refl, sym, ap, ◌∙◌, List, [], ◌∷◌, ◌++◌, map, arith, length, get_or, set, take, drop, replicate, le_refl}
+use Rattle.std.proofs.Common.{
+  Bool,
+  true,
+  false,
+  cond,
+  not,
+  ◌||◌,
+  count_by,
+  zero-add,
+  ℕ,
+  ◌+◌,
+  ◌≤◌,
+  ◌<◌,
+  ◌≡◌,
+  refl,
+  sym,
+  ap,
+  ◌∙◌,
+  List,
+  [],
+  ◌∷◌,
+  ◌++◌,
+  map,
+  arith,
+  length,
+  get_or,
+  set,
+  take,
+  drop,
+  replicate,
+  le_refl,
+}
 use Rattle.std.proofs.lemmas.List.{take_all}
 use Rattle.std.proofs.lemmas.List.Sums.{sum_by-cons}
 use Rattle.std.specs.List.{list_any}
@@ -7,9 +38,23 @@ use mathlib.Core.List.{map-map}
 use lib.Dec.{eqb}
 use borrow.Author.Tests.{ne_eqb}
 use lib.ListN.{length-set, length-append, length-drop}
-use lib.Seq.{set-get_or, length-take-le, take_at}
+use lib.Seq.{set-get_or, get_or-take, length-take-le, take_at}
 use Rattle.laws.specs.Lists.{All, modify}
-use Rattle.laws.proofs.Slices.{Seen, take-map, slice-end, seen-get_or, view-length, view-next, view-set, view-modify, All-get_or, All-set, All-take, All-drop, All-append}
+use Rattle.laws.proofs.Slices.{
+  Seen,
+  take-map,
+  slice-end,
+  seen-get_or,
+  view-length,
+  view-next,
+  view-set,
+  view-modify,
+  All-get_or,
+  All-set,
+  All-take,
+  All-drop,
+  All-append,
+}
 use Rattle.laws.proofs.Maps.{any-map, length-of}
 use Rattle.laws.proofs.Map.{Changed, Mapped, mapped-first, mapped-read, mapped_next, changed-map}
 use Rattle.laws.proofs.Shift.{view-pushed}
@@ -81,6 +126,33 @@ module _ {us : Units} (ok : UnitsOk us) where
 pub units-end : (g : Legend) (us : Units) {i : ℕ} → us.len ≤ i → drop i (view_units g us) ≡ []
 unfolding view_units
 units-end g us h = slice-end (map (view_unit g) us.items) h
+
+-- Those that count, as a slice.
+module _ {us : Units} (ok : UnitsOk us) {l : List Slot} (e : l ≡ slots us) where
+  pub slots_length : length l ≡ us.len
+  unfolding slots
+  slots_length = ap length e ∙ length-take-le us.len us.items (room ok)
+
+  pub slot-below : {i : ℕ} → i < length l → i < us.len
+  slot-below h = omega (arith, h, slots_length)
+
+  pub slots-end : (g : Legend) {i : ℕ} → length l ≤ i → drop i (view_units g us) ≡ []
+  slots-end g h = units-end g us (omega (arith, h, slots_length))
+
+  -- One of them.
+  module _ (d : Slot) {i : ℕ} (h : i < length l) where
+    unit_is : get_or l i d ≡ get_or us.items i d
+    unfolding slots
+    unit_is = ap (λ k. get_or k i d) e ∙ get_or-take us.len us.items i d (slot-below h)
+
+    pub slot_ok : UnitOk (get_or l i d)
+    slot_ok = rw unit_is (unit_ok ok d (slot-below h))
+
+    pub slot-next : (g : Legend) → Seen (view_units g us) us.len i (view_unit g (get_or l i d))
+    slot-next g = rw unit_is (units-next ok g d (slot-below h))
+
+    pub slot-place : Seen (places us) us.len i (get_or l i d).place
+    slot-place = rw unit_is (places-next ok d (slot-below h))
 
 -- ── Busy ones ───────────────────────────────────────────────────────────────
 

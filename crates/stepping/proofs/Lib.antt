@@ -1,2 +1,0 @@
-pub mod Still
-pub mod Turns
