@@ -1,16 +1,14 @@
--- Tables of checks, one after the other; what a table that refuses for none says of its rows; a number and what it stands for.
-use Prim.Native.Nat.{ℕ, ◌≤◌, ◌<◌}
-use mathlib.Core.Path.{◌≡◌, refl, sym, ap, ◌∙◌}
+-- Tables of checks, one after the other, and what a table that refuses for none says of its rows.
+use Prim.Native.Nat.{ℕ}
+use mathlib.Core.Path.{◌≡◌, refl, sym, ◌∙◌}
 use mathlib.Core.Bool.{Bool, true, false, not}
 use mathlib.Core.Logic.{⊎_elim}
 use Rattle.std.specs.Prelude.{Option, None, Some}
 use mathlib.Core.List.{List, [], ◌∷◌, ◌++◌}
-use native.Mathlib.Omega.{arith}
-use Rattle.laws.proofs.Tests.{true-or-false, lt-or-ge}
+use Rattle.laws.proofs.Tests.{true-or-false}
 use Rattle.laws.proofs.Choices.{none-some}
 use Rattle.model.specs.Calls.{Check, first_of}
-use Rattle.checks.specs.Numbered.{numbered}
-use Rattle.checks.proofs.Table.{number, passed, held}
+use Rattle.checks.proofs.Table.{passed, held}
 
 pub first_some : (ps qs : List Check) {n : ℕ} → first_of ps ≡ Some n → first_of (ps ++ qs) ≡ Some n
 unfolding first_of
@@ -26,13 +24,6 @@ row-passes n {b} ps h =
 pub first-none : (ps qs : List Check) → first_of ps ≡ None → first_of (ps ++ qs) ≡ first_of qs
 first-none [] qs h = refl
 first-none (p ∷ ps) qs h = let r = row-passes p.0 ps h in passed p.0 (ps ++ qs) r.0 ∙ first-none ps qs r.1
-
-pub some_number : {n : ℕ} {o : Option ℕ} → numbered n ≡ o → (n ≡ 0 → ⊥) → o ≡ Some n
-some_number {n} e h = sym e ∙ number n (⊎_elim (λ (l : 0 < n). l) (λ (l : n ≤ 0). absurd (h (omega arith))) (lt-or-ge 0 n))
-
-pub no_number : {n : ℕ} {o : Option ℕ} → numbered n ≡ o → n ≡ 0 → o ≡ None
-unfolding numbered
-no_number e h = sym e ∙ ap numbered h
 
 pub yes-of-not : (a : Bool) → not a ≡ false → a ≡ true
 yes-of-not true i = refl
