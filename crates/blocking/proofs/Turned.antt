@@ -4,8 +4,7 @@ use mathlib.Core.Path.{◌≡◌, refl, sym, subst, ap, ap₂, ◌∙◌}
 use mathlib.Core.Logic.{inl}
 use mathlib.Core.List.{List, [], ◌∷◌, ◌++◌, map}
 use native.Mathlib.Omega.{arith}
-use lib.ListN.{length, get_or, drop}
-use Rattle.laws.proofs.Slices.{slice-end, slice-next, view-next, All-seen}
+use lib.ListN.{length, get_or, take, drop}
 use Rattle.capability.specs.declared.PipelineHazardKind.TheVariants.{FunctionalUnitBusy, WriteAfterRead}
 use Rattle.model.specs.Registers.{name_of}
 use Rattle.model.specs.Traces.{Trace as Wait, overwrites, memory_order, drains, trace_of, READ, WRITE}
@@ -23,9 +22,10 @@ use Rattle.writing.specs.declared.Blocked.TheVariants.{War, Memory, Drain}
 use Rattle.writing.specs.declared.Turned.{Turned}
 use Rattle.writing.specs.declared.Tried.{Tried}
 use Rattle.writing.specs.View.{view_reason, view_turned, turned_away, BlockedKnown, TurnedOk, TriedOk}
-use Rattle.telling.specs.Telling.{PlaceOf}
-use Rattle.telling.proofs.Tell.{Telling, telling-next}
-use Rattle.blocking.specs.Told.{Told}
+use Rattle.writing.proofs.Trying.{away-few, away-next, away-end}
+use Rattle.telling.specs.Telling.{PlaceOf, Tells}
+use Rattle.telling.proofs.Tell.{Telling, telling-next, telling-last}
+use Rattle.blocking.specs.Told.{Told, blocked_waits}
 
 -- ── One ─────────────────────────────────────────────────────────────────────
 
@@ -74,25 +74,19 @@ module _ {us : Units} {t : Turned} {m : ℕ} (mine : PlaceOf us t.unit m) where
 abbrev pub blocked-from : Units → Tried → ℕ → Frame → List Wait
 blocked-from us tr k f = map (blocked_trace (view_units f.legend us) f.names) (drop k (turned_away tr))
 
-pub blocked-end : (us : Units) (tr : Tried) {k : ℕ} (f : Frame) → tr.len ≤ k → blocked-from us tr k f ≡ []
-unfolding turned_away
-blocked-end us tr f h = ap (map (blocked_trace (view_units f.legend us) f.names)) (slice-end (map view_turned tr.items) h)
+-- They are lent as a slice.
+module _ {us : Units} {tr : Tried} (ok : TriedOk us tr) {s : List Turned} (q : s ≡ take tr.len tr.items) {l₀ l : Log} {k : ℕ}
+    (e : Telling us l₀ l (blocked-from us tr 0) (blocked-from us tr k) k)
+  where
+    pub blocked-end : length s ≤ k → Tells us l₀ l (blocked_waits us tr)
+    blocked-end h = telling-last e (λ f. ap (map (blocked_trace (view_units f.legend us) f.names)) (away-end ok q h))
 
-module _ {us : Units} {tr : Tried} (few : us.len ≤ 64) (ok : TriedOk us tr) where
-  pub turned-room : tr.len ≤ length tr.items
-  turned-room = omega (arith, ok.few, ok.size)
-
-  pub turned-ok : (d : Turned) {k : ℕ} → k < tr.len → TurnedOk us (get_or tr.items k d)
-  turned-ok d h = All-seen (TurnedOk us) _ ok.each (slice-next tr.items d turned-room h)
-
-  pub blocked-told : {l₀ l r : Log} {k : ℕ} (d : Turned) {t : Trace} → k < tr.len → Telling us l₀ l (blocked-from us tr 0) (blocked-from us tr k) k
-      → Told us (get_or tr.items k d) t
-      → Logs r (listed l.traces ++ t ∷ []) l.traces.target (λ f. stall_all (view_trace f l.traces.target t ∷ []) (view_log f l))
-      → Telling us l₀ r (blocked-from us tr 0) (blocked-from us tr (k + 1)) (k + 1)
-  unfolding turned_away
-  blocked-told {l = l} {k = k} d {t} h e x s =
-      telling-next e t (omega (arith, ok.few)) s
-      (λ f.
-      ap (map (blocked_trace (view_units f.legend us) f.names)) (view-next view_turned tr.items d turned-room h).is
-      ∙ ap (λ y. y ∷ blocked-from us tr (k + 1) f) (sym (x.is f l.traces.target)))
-      x.from
+    pub blocked-told : {r : Log} (d : Turned) {t : Trace} → k < length s → Told us (get_or s k d) t
+        → Logs r (listed l.traces ++ t ∷ []) l.traces.target (λ f. stall_all (view_trace f l.traces.target t ∷ []) (view_log f l))
+        → Telling us l₀ r (blocked-from us tr 0) (blocked-from us tr (k + 1)) (k + 1)
+    blocked-told d {t} h x m =
+        telling-next e t (omega (arith, away-few ok q)) m
+        (λ f.
+        ap (map (blocked_trace (view_units f.legend us) f.names)) (away-next ok q d h).is
+        ∙ ap (λ y. y ∷ blocked-from us tr (k + 1) f) (sym (x.is f l.traces.target)))
+        x.from

@@ -3,7 +3,7 @@ use Prim.Native.Nat.{ℕ, zero, suc, ◌+◌, ◌≤◌, ◌<◌}
 use mathlib.Core.Path.{◌≡◌, refl, sym, ap, ◌∙◌}
 use mathlib.Core.Bool.{Bool, true, false, cond, ◌||◌}
 use mathlib.Core.Logic.{⊎_elim}
-use mathlib.Core.List.{List, [], ◌∷◌, ◌++◌, map, append_assoc, append-nil}
+use mathlib.Core.List.{List, [], ◌∷◌, ◌++◌, map, append_assoc}
 use native.Mathlib.Omega.{arith}
 use lib.Dec.{eqb, ltb}
 use lib.ListN.{length, get_or, set, take, replicate, get_or-replicate, length-replicate, length-set}
@@ -18,6 +18,10 @@ use Rattle.flight.specs.declared.Queued.{Queued}
 use Rattle.flight.specs.declared.Queue.{Queue}
 use Rattle.flight.specs.View.{entries, QueueOk}
 use Rattle.flight.proofs.Entries.{entries-length, entries_next, entry-ok}
+use Rattle.units.specs.declared.Unit.{Unit as Slot}
+use Rattle.bank.specs.declared.Units.{Units}
+use Rattle.bank.specs.View.{slots, UnitsOk}
+use Rattle.bank.proofs.Steps.{slot_ok}
 use Rattle.places.specs.declared.Places.{Places}
 use Rattle.places.specs.Places.{queue_places, Marked, Free}
 
@@ -72,9 +76,6 @@ pub record Marking (w : List ℕ) (n : ℕ) (m₀ m : Places) (i : ℕ) : Type 0
   pub size : length m.used ≡ 81
   pub is : (l : List ℕ) → Marked l m₀ → Marked (l ++ take i w) m
 
-pub marking-first : {w : List ℕ} {n : ℕ} {m : Places} → length m.used ≡ 81 → Marking w n m m 0
-marking-first {m = m} s = record { most = omega arith; size = s; is = λ l e. rw append-nil e }
-
 module _ {w : List ℕ} {n : ℕ} {m₀ m : Places} {i : ℕ} (e : Marking w n m₀ m i) where
   pub marking-next : {x : ℕ} → Seen w n i x → x ≤ 80 → Marking w n m₀ (record { used = set m.used x true }) (i + 1)
   marking-next {x} a h =
@@ -86,6 +87,11 @@ module _ {w : List ℕ} {n : ℕ} {m₀ m : Places} {i : ℕ} (e : Marking w n m
 
   pub marking-last : length w ≤ i → (l : List ℕ) → Marked l m₀ → Marked (l ++ w) m
   marking-last h l k = rw (take_all i w h) at (e.is l k)
+
+-- ── The places of units ─────────────────────────────────────────────────────
+
+pub unit_place : {us : Units} (ok : UnitsOk us) (d : Slot) {s : List Slot} (e : s ≡ slots us) {i : ℕ} (h : i < length s) → (get_or s i d).place ≤ 80
+unit_place ok d e h = (slot_ok ok e d h).place
 
 -- ── The places of a queue ───────────────────────────────────────────────────
 

@@ -3,10 +3,10 @@
 
 ghost use Rattle.std.specs.Prelude.{◌≡◌, List, ◌++◌, ◌∷◌, [], ℕ, ◌+◌, ◌≤◌, length};
 ghost use Rattle.flight.specs.View.{QueueOk};
-ghost use Rattle.bank.specs.View.{places};
-ghost use Rattle.slots.specs.View.{units_of, Lent};
+ghost use Rattle.bank.specs.View.{places, UnitsOk};
 ghost use Rattle.places.specs.Places.{queue_places, Marked, Free};
 
+use bank::Units;
 use flight::Queue;
 
 // Which places of the pool are taken.
@@ -17,14 +17,13 @@ pub struct Places {
 
 impl Places {
     // Those of the units.
-    fn of_units(us: &[[u8; 40]], ss: &[u64], n: usize) -> Places
-        requires { Lent us.now ss.now n }
-        ensures { Marked (places (units_of us.now ss.now n)) result }
+    fn of_units(units: &Units) -> Places
+        requires { UnitsOk units.now }
+        ensures { Marked (places units.now) result }
     {
         let mut places = Places { used: [false; 81] };
-        for i in 0..n {
-            let u = slots::unit_at(us, ss, i);
-            places.used[u.place as usize] = true;
+        for unit in units.as_slice() {
+            places.used[unit.place as usize] = true;
         }
         places
     }
@@ -56,14 +55,14 @@ impl Places {
 }
 
 // A place of the pool that no operation in flight has, nor the one that left in this cycle.
-pub fn free_place(us: &[[u8; 40]], ss: &[u64], n: usize, queue: Queue, gone: u8) -> usize
-    requires lent { Lent us.now ss.now n }
-    requires queue_ok { QueueOk queue }
-    requires len_bound { n + queue.len ≤ 78 }
+pub fn free_place(units: &Units, queue: &Queue, gone: u8) -> usize
+    requires units_ok { UnitsOk units.now }
+    requires queue_ok { QueueOk queue.now }
+    requires len_bound { units.now.len + queue.now.len ≤ 78 }
     requires gone_bound { gone ≤ 80 }
-    ensures { Free ((places (units_of us.now ss.now n) ++ queue_places queue) ++ gone ∷ []) result }
+    ensures { Free ((places units.now ++ queue_places queue.now) ++ gone ∷ []) result }
 {
-    let mut places = Places::of_units(us, ss, n).and_queue(&queue);
+    let mut places = Places::of_units(units).and_queue(queue);
     places.used[gone as usize] = true;
     places.first_free()
 }

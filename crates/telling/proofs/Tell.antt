@@ -1,17 +1,17 @@
 -- The loop that tells a log waits about units: what is left to tell gives what the whole gives.
 use Prim.Native.Nat.{ℕ, ◌+◌, ◌≤◌, ◌<◌}
-use mathlib.Core.Path.{◌≡◌, refl, sym, ap, ◌∙◌}
+use mathlib.Core.Path.{◌≡◌, sym, ap, ◌∙◌}
 use mathlib.Core.Bool.{true, false}
 use mathlib.Core.Logic.{⊎_elim}
-use Rattle.std.specs.Prelude.{Some, slice_get}
+use Rattle.std.specs.Prelude.{slice_get}
 use mathlib.Core.List.{List, [], ◌∷◌, ◌++◌, map, append_assoc, append-nil}
 use native.Mathlib.Omega.{arith}
 use lib.Dec.{eqb}
-use lib.ListN.{length, drop, length-append}
+use lib.ListN.{length, get_or, drop, length-append}
 use borrow.Author.Tests.{not-true, eqb-false}
 use Rattle.laws.specs.Lists.{All, keep}
 use Rattle.laws.proofs.Tests.{lt-or-ge, and_both}
-use Rattle.laws.proofs.Slices.{Seen, All-append}
+use Rattle.laws.proofs.Slices.{nth-get_or, All-append}
 use Rattle.laws.proofs.Kept.{keep-hit, keep-miss}
 use Rattle.capability.specs.declared.Phase.TheVariants.{Wait as Waiting}
 use Rattle.runs.proofs.Tracks.{all-weaken}
@@ -29,8 +29,9 @@ use Rattle.units.specs.declared.Unit.{Unit as Slot}
 use Rattle.units.specs.View.{view_unit, UnitOk}
 use Rattle.units.proofs.Pending.{waits-empty}
 use Rattle.bank.specs.declared.Units.{Units}
-use Rattle.bank.specs.View.{view_units, slots}
-use Rattle.telling.specs.Telling.{FromUnits, Heard, Tells}
+use Rattle.bank.specs.View.{view_units, slots, UnitsOk}
+use Rattle.bank.proofs.Steps.{slot-below, slot_ok, slot-next, slots-end}
+use Rattle.telling.specs.Telling.{FromUnits, Heard, Tells, source_waits}
 
 pub stall-none : (l : ModelLog) → stall_all [] l ≡ l
 unfolding stall_all count_stalls
@@ -50,19 +51,6 @@ pub record Telling (us : Units) (l₀ l : Log) (all left : Frame → List Wait) 
   pub waits : listed l.traces ≡ listed l₀.traces ++ told
   pub each : All (FromUnits us) told
   pub ok : LogOk l
-
-pub telling-first : {us : Units} {l : Log} {all : Frame → List Wait} → LogOk l → Telling us l l all all 0
-telling-first {l = l} ok =
-    record {
-      most = omega arith;
-      is = λ f. refl;
-      target = refl;
-      few = omega arith;
-      told = [];
-      waits = sym (append-nil (listed l.traces));
-      each = tt;
-      ok = ok;
-    }
 
 module _ {us : Units} {l₀ l : Log} {all left : Frame → List Wait} {i : ℕ} (e : Telling us l₀ l all left i) where
   -- A turn that tells nothing.
@@ -137,24 +125,30 @@ pending-some {u} ok w =
     let k : eqb u.pending.len 0 ≡ false = sym (waits-empty ok.pending) ∙ not-true _ (and_both (in_phase Waiting (view_unit g u)) _ (w g)).1 in
     ⊎_elim (λ n. n) (λ n. absurd (eqb-false u.pending.len 0 k (omega arith))) (lt-or-ge 0 u.pending.len)
 
--- A turn at unit u of place i.
-module _ {us : Units} (u : Slot) {l₀ l : Log} {i : ℕ} (here : (g : Legend) → Seen (view_units g us) us.len i (view_unit g u))
-    (h : i < us.len) (e : Telling us l₀ l (waits-from us 0) (waits-from us i) i)
-  where
-    pub waits-skip : ((g : Legend) → waits (view_unit g u) ≡ false) → Telling us l₀ l (waits-from us 0) (waits-from us (i + 1)) (i + 1)
-    waits-skip w =
-        telling-skip e h
-        (λ f.
-        let told = wait_trace (view_units f.legend us) f.names in
-        ap (λ x. map told (keep waits x)) (here f.legend).is ∙ ap (map told) (keep-miss waits (w f.legend) _))
+-- The units as a slice.
+module _ {us : Units} (ok : UnitsOk us) {s : List Slot} (e : s ≡ slots us) where
+  -- A turn at the unit of place i.
+  module _ (d : Slot) {i : ℕ} (h : i < length s) where
+    module _ {l₀ l : Log} (t : Telling us l₀ l (waits-from us 0) (waits-from us i) i) where
+      pub waits-skip : ((g : Legend) → waits (view_unit g (get_or s i d)) ≡ false) → Telling us l₀ l (waits-from us 0) (waits-from us (i + 1)) (i + 1)
+      waits-skip w =
+          telling-skip t (slot-below ok e h)
+          (λ f.
+          let told = wait_trace (view_units f.legend us) f.names in
+          ap (λ x. map told (keep waits x)) (slot-next ok e d h f.legend).is ∙ ap (map told) (keep-miss waits (w f.legend) _))
 
-    pub waits-told : {r : Log} {t : Trace} → UnitOk u → slice_get (slots us) i ≡ Some u → ((g : Legend) → waits (view_unit g u) ≡ true) → Heard us u t
-        → Logs r (listed l.traces ++ t ∷ []) l.traces.target (λ f. stall_all (view_trace f l.traces.target t ∷ []) (view_log f l))
-        → Telling us l₀ r (waits-from us 0) (waits-from us (i + 1)) (i + 1)
-    waits-told {t = t} ok at w x s =
-        telling-next e t h s
-        (λ f.
-        let told = wait_trace (view_units f.legend us) f.names in
-        ap (λ y. map told (keep waits y)) (here f.legend).is ∙ ap (map told) (keep-hit waits (w f.legend) _)
-        ∙ ap (λ y. y ∷ waits-from us (i + 1) f) (sym (x.is f l.traces.target)))
-        (x.from i at (pending-some ok w))
+      pub waits-told : {r : Log} {x : Trace} → ((g : Legend) → waits (view_unit g (get_or s i d)) ≡ true) → Heard us (get_or s i d) x
+          → Logs r (listed l.traces ++ x ∷ []) l.traces.target (λ f. stall_all (view_trace f l.traces.target x ∷ []) (view_log f l))
+          → Telling us l₀ r (waits-from us 0) (waits-from us (i + 1)) (i + 1)
+      waits-told {x = x} w u q =
+          telling-next t x (slot-below ok e h) q
+          (λ f.
+          let told = wait_trace (view_units f.legend us) f.names in
+          ap (λ y. map told (keep waits y)) (slot-next ok e d h f.legend).is ∙ ap (map told) (keep-hit waits (w f.legend) _)
+          ∙ ap (λ y. y ∷ waits-from us (i + 1) f) (sym (u.is f l.traces.target)))
+          (u.from i (ap (λ y. slice_get y i) (sym e) ∙ nth-get_or s d h) (pending-some (slot_ok ok e d h) w))
+
+  pub waits-end : {l₀ l : Log} {i : ℕ} → Telling us l₀ l (waits-from us 0) (waits-from us i) i → length s ≤ i → Tells us l₀ l (source_waits us)
+  unfolding keep
+  waits-end t h =
+      telling-last t (λ f. ap (λ y. map (wait_trace (view_units f.legend us) f.names) (keep waits y)) (slots-end ok e f.legend h))

@@ -4,69 +4,60 @@
 ghost use Rattle.std.specs.Prelude.{◌+◌, ◌≤◌};
 ghost use Rattle.stalls.specs.View.{LogOk};
 ghost use Rattle.units.specs.View.{UnitOk};
-ghost use Rattle.slots.specs.View.{units_of, Lent};
+ghost use Rattle.bank.specs.View.{UnitsOk};
 ghost use Rattle.telling.specs.Telling.{PlaceOf, Heard, Tells, source_waits};
 
+use bank::Units;
 use stalls::{Log, Trace};
 use timeline::WaitForm;
 use units::{Unit, waits};
 
 // The place in the pool of a unit's operation; 80 for none.
-pub fn place_of(us: &[[u8; 40]], ss: &[u64], n: usize, unit: u8) -> u8
-    requires { Lent us.now ss.now n }
-    ensures { PlaceOf (units_of us.now ss.now n) unit result }
+pub fn place_of(units: &Units, unit: u8) -> u8
+    requires { UnitsOk units.now }
+    ensures { PlaceOf units.now unit result }
 {
-    let at = unit as usize;
-    if at < n {
-        slots::unit_at(us, ss, at).place
-    } else {
-        80
+    match units.as_slice().get(unit as usize) {
+        Some(u) => u.place,
+        None => 80,
     }
 }
 
 // What unit u waits for first.
 // model: Issue.wait_trace
-fn wait_trace(us: &[[u8; 40]], ss: &[u64], n: usize, u: &Unit) -> Trace
-    requires lent { Lent us.now ss.now n }
+fn wait_trace(units: &Units, u: &Unit) -> Trace
+    requires units_ok { UnitsOk units.now }
     requires unit_ok { UnitOk u.now }
-    ensures { Heard (units_of us.now ss.now n) u.now result }
+    ensures { Heard units.now u.now result }
 {
     let wait = waits::first(&u.pending);
-    let at = wait.unit as usize;
-    let producer = if at < n {
-        slots::unit_at(us, ss, at)
-    } else {
-        Unit::idle(0, 0)
-    };
-    if producer.busy {
-        Trace {
+    match units.as_slice().get(wait.unit as usize) {
+        Some(producer) if producer.busy => Trace {
             form: WaitForm::WaitsFor,
             mine: u.place,
             other: producer.place,
             number: wait.register,
-        }
-    } else {
-        Trace {
+        },
+        _ => Trace {
             form: WaitForm::WaitsForOlder,
             mine: u.place,
             other: 80,
             number: wait.register,
-        }
+        },
     }
 }
 
 // The waits of the units that wait for a source, in order.
 // model: stall_all (map wait_trace (keep waits units))
-pub fn list_waits(us: &[[u8; 40]], ss: &[u64], n: usize, log: &mut Log)
-    requires lent { Lent us.now ss.now n }
+pub fn list_waits(units: &Units, log: &mut Log)
+    requires units_ok { UnitsOk units.now }
     requires log_ok { LogOk log.old }
-    requires n_bound { log.old.traces.len + n ≤ 130 }
-    ensures { Tells (units_of us.now ss.now n) log.old log.new (source_waits (units_of us.now ss.now n)) }
+    requires len_bound { log.old.traces.len + units.now.len ≤ 130 }
+    ensures { Tells units.now log.old log.new (source_waits units.now) }
 {
-    for i in 0..n {
-        let u = slots::unit_at(us, ss, i);
+    for u in units.as_slice() {
         if u.waits() {
-            log.stall(wait_trace(us, ss, n, &u));
+            log.stall(wait_trace(units, u));
         }
     }
 }

@@ -1,6 +1,5 @@
-use Rattle.slots.specs.View.{units_of}
 use Rattle.recording.proofs.Pushes.{Pushing, units-left}
 use Rattle.recording.proofs.push_units.Given as goal
 
-abbrev pub invariant-loop-i : goal.invariant-loop-i
-invariant-loop-i l = Pushing (units-left (units_of l.us l.ss l.n)) l.window l.initial.ts l.initial.fs l.initial.cells l.ts l.fs l.cells l.i
+abbrev pub invariant-loop-u : goal.invariant-loop-u
+invariant-loop-u l = Pushing (units-left l.units) l.window l.initial.tracks l.initial.cells l.tracks l.cells l.u-index

@@ -1,6 +1,5 @@
-use Rattle.slots.specs.View.{units_of}
 use Rattle.telling.proofs.Tell.{Telling, waits-from}
 use Rattle.telling.proofs.list_waits.Given as goal
 
-abbrev pub invariant-loop-i : goal.invariant-loop-i
-invariant-loop-i l = Telling (units_of l.us l.ss l.n) l.initial.log l.log (waits-from (units_of l.us l.ss l.n) 0) (waits-from (units_of l.us l.ss l.n) l.i) l.i
+abbrev pub invariant-loop-u : goal.invariant-loop-u
+invariant-loop-u l = Telling l.units l.initial.log l.log (waits-from l.units 0) (waits-from l.units l.u-index) l.u-index

@@ -1,25 +1,22 @@
-use mathlib.Core.Path.{sym, subst}
-use Rattle.slots.specs.View.{units_of}
-use Rattle.telling.proofs.Heard.{IsUnit, unit-found, unit-none, heard-busy, heard-idle}
+use Rattle.std.proofs.Common.{◌≡◌, None, Some, arith, slice_get}
+use Rattle.std.proofs.lemmas.Grind.{common_steps}
+use Rattle.std.proofs.lemmas.Option.{gets}
+use Rattle.bank.specs.View.{slots}
+use Rattle.telling.proofs.Heard.{heard-busy, heard-idle, heard-past}
 use Rattle.telling.proofs.wait_trace.Goals as goal
-use Rattle.telling.proofs.wait_trace.Goals.{then-at-n, else-at-n}
+use Rattle.telling.proofs.wait_trace.Goals.{in_default-via-in-Some+else-producer, in_default-via-in_default}
 
-pub returns-then-producer : goal.returns-then-producer
-returns-then-producer c =
-    let l = c.requires.lent in
-    let here : IsUnit (units_of c.args.us.now c.args.ss.now c.args.n) c.first-wait.result.unit c.if-at-n.producer =
-    elim c.if-at-n.branch [
-      | then-at-n w ↦ subst (IsUnit _ _) (sym w.producer-is) (unit-found l w.if-at-n.true w.unit_at-producer.ensures)
-      | else-at-n w ↦ subst (IsUnit _ _) (sym w.producer-is) (unit-none l.ok w.if-at-n.false w.idle-producer.ensures)
-    ] in
-    heard-busy _ _ c.requires.unit_ok c.first-wait.ensures here c.if-producer.true
+pub returns-in-Some : goal.returns-in-Some
+returns-in-Some c =
+    let e : slice_get (slots c.args.units.now) c.first-wait.result.unit ≡ Some c.in-Some.producer.now = grind (arith, common_steps, gets) in
+    heard-busy _ _ c.requires.unit_ok c.first-wait.ensures e c.if-producer.true
 
-pub returns-else-producer : goal.returns-else-producer
-returns-else-producer c =
-    let l = c.requires.lent in
-    let here : IsUnit (units_of c.args.us.now c.args.ss.now c.args.n) c.first-wait.result.unit c.if-at-n.producer =
-    elim c.if-at-n.branch [
-      | then-at-n w ↦ subst (IsUnit _ _) (sym w.producer-is) (unit-found l w.if-at-n.true w.unit_at-producer.ensures)
-      | else-at-n w ↦ subst (IsUnit _ _) (sym w.producer-is) (unit-none l.ok w.if-at-n.false w.idle-producer.ensures)
-    ] in
-    heard-idle _ _ c.requires.unit_ok c.first-wait.ensures here c.if-producer.false
+pub returns-in_default : goal.returns-in_default
+returns-in_default c = elim c.in_default.branch [
+  | in_default-via-in-Some+else-producer w ↦
+      let e : slice_get (slots c.args.units.now) c.first-wait.result.unit ≡ Some w.in-Some.producer.now = grind (arith, common_steps, gets) in
+      heard-idle _ _ c.requires.unit_ok c.first-wait.ensures e w.if-producer.false
+  | in_default-via-in_default w ↦
+      let e : slice_get (slots c.args.units.now) c.first-wait.result.unit ≡ None = grind (arith, common_steps, gets) in
+      heard-past _ _ c.requires.unit_ok c.first-wait.ensures e
+]

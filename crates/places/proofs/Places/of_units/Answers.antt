@@ -1,17 +1,21 @@
 use mathlib.Core.Path.{refl}
 use mathlib.Core.List.{[]}
 use native.Mathlib.Omega.{arith}
-use Rattle.bank.proofs.Steps.{places-length}
-use Rattle.slots.proofs.Loops.{at_ok, at_place}
-use Rattle.places.proofs.Marks.{marked-none, mark-there, marking-next, marking-last}
+use Rattle.bank.proofs.Steps.{places-length, slots_length, slot-place}
+use Rattle.places.proofs.Marks.{marked-none, mark-there, unit_place, marking-next, marking-last}
 use Rattle.places.proofs.Places.of_units.Goals as goal
 
-pub bounds-places-u : goal.bounds-places-u
-bounds-places-u c = mark-there (at_ok c.requires c.loop-i-test.true c.unit_at-u.ensures).place
+pub bounds-places-unit : goal.bounds-places-unit
+bounds-places-unit c = mark-there (unit_place c.requires _ c.as_slice-unit-items.ensures c.loop-unit-test.true)
 
-pub loop-i-preserved : goal.loop-i-preserved
-loop-i-preserved c = let l = c.requires in
-    marking-next c.loop-i.invariant (at_place l c.loop-i-test.true c.unit_at-u.ensures) (at_ok l c.loop-i-test.true c.unit_at-u.ensures).place
+pub loop-unit-preserved : goal.loop-unit-preserved
+loop-unit-preserved c =
+    let ok = c.requires in
+    let e = c.as_slice-unit-items.ensures in
+    marking-next c.loop-unit.invariant (slot-place ok e _ c.loop-unit-test.true) (unit_place ok _ e c.loop-unit-test.true)
 
 pub returns : goal.returns
-returns c = let l = c.requires in marking-last c.loop-i.invariant (omega (arith, places-length l.ok, c.loop-i-test.false)) [] (marked-none refl)
+returns c =
+    let ok = c.requires in
+    marking-last c.loop-unit.invariant
+    (omega (arith, places-length ok, slots_length ok c.as_slice-unit-items.ensures, c.loop-unit-test.false)) [] (marked-none refl)
