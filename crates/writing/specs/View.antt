@@ -3,6 +3,7 @@ use Rattle.std.specs.Prelude.{ℕ, ◌≤◌, ◌<◌, ◌≡◌, List, ◌∷�
 use Rattle.std.specs.Option.{IfSome}
 use Rattle.laws.specs.Lists.{All}
 use Rattle.model.specs.Write.{Blocked as Reason, war, memory, drain, insert, Tried as Outcome, tried}
+use Rattle.units.specs.declared.Unit.{Unit as Slot}
 use Rattle.bank.specs.declared.Units.{Units}
 use Rattle.registers.specs.declared.Operands.{Operands}
 use Rattle.flight.specs.View.{Legend}
@@ -15,6 +16,10 @@ use Rattle.writing.specs.declared.Turned.{Turned}
 use Rattle.writing.specs.declared.Tried.{Tried}
 
 -- ── The finished units ──────────────────────────────────────────────────────
+
+-- The numbers of the units' operations.
+abbrev pub seqs : Units → List ℕ
+seqs us = map (λ (u : Slot). u.seq) us.items
 
 -- A unit with its number, of the numbers ss.
 abbrev pub view_finished : List ℕ → ℕ → ℕ × ℕ
