@@ -13,9 +13,10 @@ use Rattle.laws.specs.Lists.{All, count, elem}
 use Rattle.std.specs.List.{list_any}
 use Rattle.laws.proofs.Tests.{cond-ne, true-or-false}
 use Rattle.stalls.specs.declared.Trace.{Trace}
+use Rattle.stalls.specs.View.{listed}
 use Rattle.bank.specs.View.{places}
 use Rattle.board.specs.declared.Board.{Board}
-use Rattle.board.specs.Promises.{queue_places, taken_places, Apart, Names}
+use Rattle.board.specs.Promises.{queue_places, taken_places, unit_places, Apart, Names, Named}
 
 -- ── Counting ────────────────────────────────────────────────────────────────
 
@@ -124,3 +125,7 @@ pub left-more : (ps : List ℕ) {qs : List ℕ} {i x : ℕ} → i < length ps �
 unfolding count
 left-more ps {qs} {x = x} h e g p n =
     omega (arith, count-append (eqb p) qs (x ∷ []), ap (count (eqb p)) e, count-moved ps {p = p} h g n)
+
+-- Waits that name places of units, beside any place more.
+pub named_units : (b : Board) → Named (places b.units) b → Named (unit_places b) b
+named_units b = names_more (places b.units) (unit_places b) (more_left (places b.units) (b.gone ∷ [])) (listed b.log.traces)

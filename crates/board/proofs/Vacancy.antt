@@ -1,9 +1,9 @@
 -- A unit that is free has no place of the pool: which steps keep it.
-use Prim.Native.Nat.{ℕ, zero, suc, ◌≤◌, ◌<◌}
+use Prim.Native.Nat.{ℕ, zero, suc, ◌<◌}
 use mathlib.Core.Path.{◌≡◌, refl, sym, subst, ap, ◌∙◌}
 use mathlib.Core.Bool.{Bool, true, false}
 use mathlib.Core.Logic.{◌⊎◌, inl, inr, ⊎_elim}
-use Rattle.std.specs.Prelude.{None, slice_get}
+use Rattle.std.specs.Prelude.{Option, None, Some}
 use mathlib.Core.List.{List, [], ◌∷◌, map}
 use native.Mathlib.Omega.{arith}
 use native.Mathlib.Nat.{not-suc-le-zero, le_of_suc-le-suc}
@@ -13,13 +13,11 @@ use lib.Seq.{get_or-set_same, get_or-set_other}
 use borrow.Author.Tests.{eqb-true, eqb-false}
 use Rattle.laws.specs.Optional.{value_or}
 use Rattle.laws.specs.Lists.{modify}
-use Rattle.laws.proofs.Choices.{none-some}
-use Rattle.laws.proofs.Tests.{lt-or-ge, true-or-false}
+use Rattle.laws.proofs.Choices.{none-some, some_inj}
+use Rattle.laws.proofs.Tests.{true-or-false}
 use Rattle.laws.proofs.Slices.{nth-modify-other}
 use Rattle.model.specs.Units.{FunctionalUnit, with_busy, idle_unit, clear, clear_hazard, mark_hazard, unit_at, without_waits, tick, begin, read_one}
 use Rattle.model.specs.Write.{Blocked, blocked_kind, mark_blocked, take_out}
-use Rattle.registers.specs.View.{claimed}
-use Rattle.registers.proofs.Owing.{claimed-some, claimed-none}
 use Rattle.flight.specs.View.{Legend}
 use Rattle.bank.specs.declared.Units.{Units}
 use Rattle.bank.specs.View.{view_units, places, UnitsOk, UnitsAre}
@@ -28,8 +26,8 @@ use Rattle.board.specs.declared.Board.{Board}
 use Rattle.board.specs.Promises.{Vacant}
 
 -- The same of units, their places, and the unit of the offer. Vacant b is this of its parts.
-abbrev pub Empty : Units → ℕ → Type 0
-Empty us w = (g : Legend) (i : ℕ) → (unit_at (view_units g us) i).busy ≡ false → (i ≡ w) ⊎ (get_or (places us) i 80 ≡ 80)
+abbrev pub Empty : Units → Option ℕ → Type 0
+Empty us w = (g : Legend) (i : ℕ) → (unit_at (view_units g us) i).busy ≡ false → (w ≡ Some i) ⊎ (get_or (places us) i 80 ≡ 80)
 
 -- ── No places ───────────────────────────────────────────────────────────────
 
@@ -38,23 +36,12 @@ all-eighty zero i = refl
 all-eighty (suc n) zero = refl
 all-eighty (suc n) (suc i) = all-eighty n i
 
-pub none-placed : (us : Units) (n : ℕ) → places us ≡ replicate n 80 → (w : ℕ) → Empty us w
+pub none-placed : (us : Units) (n : ℕ) → places us ≡ replicate n 80 → (w : Option ℕ) → Empty us w
 none-placed us n e w g i t = inr (ap (λ l. get_or l i 80) e ∙ all-eighty n i)
 
--- Past the last unit there is none.
-past : (l : List ℕ) {i : ℕ} → length l ≤ i → get_or l i 80 ≡ 80
-past [] h = refl
-past (x ∷ l) {i = zero} h = absurd (not-suc-le-zero h)
-past (x ∷ l) {i = suc i} h = past l (le_of_suc-le-suc h)
-
--- No unit is numbered 64.
-pub no_offer : {us : Units} {v : ℕ} → UnitsOk us → 64 ≤ v → (w : ℕ) → Empty us v → Empty us w
-no_offer {us} {v} ok h w e g i t =
-    ⊎_elim (λ d. inr (past (places us) (let z : length (places us) ≤ i = omega (arith, d, places-length ok, ok.few) in z))) inr (e g i t)
-
--- A unit's number is below 64.
-pub unclaimed : {u : ℕ} → claimed u ≡ None → 64 ≤ u
-unclaimed {u} e = ⊎_elim (λ h. none-some u (sym e ∙ claimed-some h)) (λ h. h) (lt-or-ge u 64)
+-- Nothing is on offer.
+pub no_offer : (us : Units) (w : Option ℕ) → Empty us None → Empty us w
+no_offer us w e g i t = ⊎_elim (λ d. none-some i d) inr (e g i t)
 
 -- ── Each unit stays as busy as it was ───────────────────────────────────────
 
@@ -79,9 +66,9 @@ step-busy u = refl
 
 -- The units by f, in their places.
 pub empty-map : (us : Units) {r : Units} (f : FunctionalUnit → FunctionalUnit) → ((u : FunctionalUnit) → (f u).busy ≡ u.busy)
-    → UnitsAre r (λ g. map f (view_units g us)) (places us) → (w : ℕ) → Empty us w → Empty r w
+    → UnitsAre r (λ g. map f (view_units g us)) (places us) → (w : Option ℕ) → Empty us w → Empty r w
 empty-map us f h e w v g i t =
-    subst (λ l. (i ≡ w) ⊎ (get_or l i 80 ≡ 80)) (sym e.places)
+    subst (λ l. (w ≡ Some i) ⊎ (get_or l i 80 ≡ 80)) (sym e.places)
     (v g i (sym (map-busy f h (view_units g us) i) ∙ ap (λ l. (unit_at l i).busy) (sym (e.is g)) ∙ t))
 
 -- ── One unit changes ────────────────────────────────────────────────────────
@@ -100,55 +87,44 @@ own-busy f (u ∷ us) {i = suc i} h k = own-busy f us (le_of_suc-le-suc h) k
 
 -- The unit of the offer is busy again.
 pub empty_back : {us r : Units} {at : ℕ} → UnitsOk us → at < us.len → UnitsAre r (λ g. modify at (with_busy true) (view_units g us)) (places us)
-    → (w : ℕ) → Empty us at → Empty r w
+    → (w : Option ℕ) → Empty us (Some at) → Empty r w
 empty_back {us} {r} {at} ok h e w v g i t = ⊎_elim same other (true-or-false (eqb i at))
   where
     back : (unit_at (modify at (with_busy true) (view_units g us)) i).busy ≡ false
     back = ap (λ l. (unit_at l i).busy) (sym (e.is g)) ∙ t
 
-    same : eqb i at ≡ true → (i ≡ w) ⊎ (get_or (places r) i 80 ≡ 80)
+    same : eqb i at ≡ true → (w ≡ Some i) ⊎ (get_or (places r) i 80 ≡ 80)
     same d =
         absurd
         (let y = own-busy (with_busy true) (view_units g us) {i = at} (let z : at < length (view_units g us) = omega (arith, units-length ok g) in z) (λ u. refl) in
         let x = ap (λ k. (unit_at (modify at (with_busy true) (view_units g us)) k).busy) (sym (eqb-true i at d)) ∙ back in
         let z : ◌≡◌ {A = ℕ} 0 1 = cc in omega arith)
 
-    other : eqb i at ≡ false → (i ≡ w) ⊎ (get_or (places r) i 80 ≡ 80)
+    other : eqb i at ≡ false → (w ≡ Some i) ⊎ (get_or (places r) i 80 ≡ 80)
     other d =
         let n = eqb-false i at d in
-        ⊎_elim (λ q. absurd (n q)) (λ q. inr (ap (λ l. get_or l i 80) e.places ∙ q)) (v g i (sym (other_busy (with_busy true) (view_units g us) n) ∙ back))
+        ⊎_elim (λ q. absurd (n (sym (some_inj at i q)))) (λ q. inr (ap (λ l. get_or l i 80) e.places ∙ q)) (v g i (sym (other_busy (with_busy true) (view_units g us) n) ∙ back))
 
 -- The unit of the offer goes free, and has no place any more.
 pub empty_left : {us r : Units} {at : ℕ} → UnitsOk us → at < us.len
     → UnitsAre r (λ g. map (without_waits at) (modify at clear (view_units g us))) (set (places us) at 80)
-    → (w : ℕ) → Empty us at → Empty r w
+    → (w : Option ℕ) → Empty us (Some at) → Empty r w
 empty_left {us} {r} {at} ok h e w v g i t = ⊎_elim same other (true-or-false (eqb i at))
   where
-    same : eqb i at ≡ true → (i ≡ w) ⊎ (get_or (places r) i 80 ≡ 80)
+    same : eqb i at ≡ true → (w ≡ Some i) ⊎ (get_or (places r) i 80 ≡ 80)
     same d =
         inr
         (ap (λ l. get_or l i 80) e.places ∙ ap (λ k. get_or (set (places us) at 80) k 80) (eqb-true i at d)
         ∙ get_or-set_same (places us) at 80 80 (let z : at < length (places us) = omega (arith, places-length ok) in z))
 
-    other : eqb i at ≡ false → (i ≡ w) ⊎ (get_or (places r) i 80 ≡ 80)
+    other : eqb i at ≡ false → (w ≡ Some i) ⊎ (get_or (places r) i 80 ≡ 80)
     other d =
         let n = eqb-false i at d in
-        ⊎_elim (λ q. absurd (n q)) (λ q. inr (ap (λ l. get_or l i 80) e.places ∙ get_or-set_other (places us) at i 80 80 n ∙ q))
+        ⊎_elim (λ q. absurd (n (sym (some_inj at i q)))) (λ q. inr (ap (λ l. get_or l i 80) e.places ∙ get_or-set_other (places us) at i 80 80 n ∙ q))
         (v g i
         (sym (other_busy clear (view_units g us) n) ∙ sym (map-busy (without_waits at) (without_waits-busy at) (modify at clear (view_units g us)) i)
         ∙ ap (λ l. (unit_at l i).busy) (sym (e.is g))
         ∙ t))
-
--- A unit whose result is on offer may keep its place: all that is not busy now, and was, is unit w.
-pub empty-out : (us : Units) {r : Units} (m : Legend → List FunctionalUnit) → UnitsAre r m (places us) → (w : ℕ)
-    → ((g : Legend) (i : ℕ) → (i ≡ w → ⊥) → (unit_at (m g) i).busy ≡ (unit_at (view_units g us) i).busy)
-    → Empty us w → Empty r w
-empty-out us {r} m e w k v g i t = ⊎_elim (λ d. inl (eqb-true i w d)) other (true-or-false (eqb i w))
-  where
-    other : eqb i w ≡ false → (i ≡ w) ⊎ (get_or (places r) i 80 ≡ 80)
-    other d =
-        let n = eqb-false i w d in
-        subst (λ l. (i ≡ w) ⊎ (get_or l i 80 ≡ 80)) (sym e.places) (v g i (sym (k g i n) ∙ ap (λ l. (unit_at l i).busy) (sym (e.is g)) ∙ t))
 
 modify-busy : (f : FunctionalUnit → FunctionalUnit) → ((u : FunctionalUnit) → (f u).busy ≡ u.busy) → (j : ℕ) (us : List FunctionalUnit) (i : ℕ)
     → (unit_at (modify j f us) i).busy ≡ (unit_at us i).busy
@@ -166,27 +142,33 @@ marked-busy (b ∷ bs) us i =
     marked-busy bs (modify b.0 (mark_hazard (blocked_kind b.1)) us) i
     ∙ modify-busy (mark_hazard (blocked_kind b.1)) (λ u. refl) b.0 us i
 
-out-busy : (w : ℕ) (us : List FunctionalUnit) {i : ℕ} → (i ≡ w → ⊥) → (unit_at (take_out (claimed w) us) i).busy ≡ (unit_at us i).busy
+-- Some units are marked, and w is the unit whose result is on offer now: it may keep its place.
+pub empty-offered : (us : Units) {r : Units} (bs : List (ℕ × Blocked)) (w : Option ℕ)
+    → UnitsAre r (λ g. take_out w (mark_blocked bs (view_units g us))) (places us) → Empty us w → Empty r w
 unfolding take_out
-out-busy w us {i} n =
-    ⊎_elim (λ h. ap (λ o. (unit_at (take_out o us) i).busy) (claimed-some h) ∙ other_busy (with_busy false) us n)
-    (λ h. ap (λ o. (unit_at (take_out o us) i).busy) (claimed-none h)) (lt-or-ge w 64)
+empty-offered us bs None e v g i t =
+    subst (λ l. (None ≡ Some i) ⊎ (get_or l i 80 ≡ 80)) (sym e.places)
+    (v g i (sym (marked-busy bs (view_units g us) i) ∙ ap (λ l. (unit_at l i).busy) (sym (e.is g)) ∙ t))
+empty-offered us {r} bs (Some w) e v g i t = ⊎_elim (λ d. inl (ap Some (sym (eqb-true i w d)))) other (true-or-false (eqb i w))
+  where
+    marked : List FunctionalUnit
+    marked = mark_blocked bs (view_units g us)
 
--- Some units are marked, and w is the unit whose result is on offer now.
-pub empty-offered : (us : Units) {r : Units} (bs : List (ℕ × Blocked)) (w : ℕ)
-    → UnitsAre r (λ g. take_out (claimed w) (mark_blocked bs (view_units g us))) (places us) → Empty us w → Empty r w
-empty-offered us bs w e =
-    empty-out us (λ g. take_out (claimed w) (mark_blocked bs (view_units g us))) e w
-    (λ g i n. out-busy w (mark_blocked bs (view_units g us)) n ∙ marked-busy bs (view_units g us) i)
+    other : eqb i w ≡ false → (Some w ≡ Some i) ⊎ (get_or (places r) i 80 ≡ 80)
+    other d =
+        let n = eqb-false i w d in
+        subst (λ l. (Some w ≡ Some i) ⊎ (get_or l i 80 ≡ 80)) (sym e.places)
+        (v g i
+        (sym (other_busy (with_busy false) marked n ∙ marked-busy bs (view_units g us) i) ∙ ap (λ l. (unit_at l i).busy) (sym (e.is g)) ∙ t))
 
 -- The three steps of a cycle.
 pub empty-stepped : (us : Units) {r : Units} → UnitsAre r (λ g. map read_one (map begin (map tick (view_units g us)))) (places us)
-    → (w : ℕ) → Empty us w → Empty r w
+    → (w : Option ℕ) → Empty us w → Empty r w
 empty-stepped us e = empty-map us step step-busy (units-so e (λ g. steps (view_units g us)) refl)
 
 -- The same units, and the same offer.
 pub vacant-same : (b r : Board) → r.units ≡ b.units → r.offer ≡ b.offer → Vacant b → Vacant r
 vacant-same b r e f v g i h =
-    subst (λ o. (i ≡ o.writing) ⊎ (get_or (places r.units) i 80 ≡ 80)) (sym f)
-    (subst (λ u. (i ≡ b.offer.writing) ⊎ (get_or (places u) i 80 ≡ 80)) (sym e)
+    subst (λ o. (o.writing ≡ Some i) ⊎ (get_or (places r.units) i 80 ≡ 80)) (sym f)
+    (subst (λ u. (b.offer.writing ≡ Some i) ⊎ (get_or (places u) i 80 ≡ 80)) (sym e)
     (v g i (subst (λ u. (unit_at (view_units g u) i).busy ≡ false) e h)))

@@ -1,4 +1,4 @@
--- What the steps of a cycle say of the board that they hand back.
+-- What the steps of a cycle say of the board that they leave.
 use Rattle.std.specs.Prelude.{ℕ, ◌+◌, ◌≤◌, ◌<◌, ◌≡◌, true, false, ◌⊎◌, List, [], ◌∷◌, ◌++◌, map, eqb, length, get_or, replicate, Option, None, Some}
 use Rattle.laws.specs.Lists.{All, count, elem}
 use Rattle.model.specs.Op.{Op}
@@ -17,6 +17,7 @@ use Rattle.stalls.specs.View.{listed}
 use Rattle.stalls.specs.Promises.{NoRedirect}
 use Rattle.bank.specs.declared.Units.{Units}
 use Rattle.bank.specs.View.{view_units, places}
+use Rattle.board.specs.declared.Offer.{Offer}
 use Rattle.board.specs.declared.Front.{Front}
 use Rattle.board.specs.declared.Board.{Board}
 use Rattle.board.specs.View.{Frame, known_names, view_board, BoardOk}
@@ -24,6 +25,10 @@ use Rattle.board.specs.View.{Frame, known_names, view_board, BoardOk}
 -- Nothing is on, and no cycle open.
 abbrev pub no_front : Front
 no_front = record { enabled = false; halted = false; faulted = false; in_cycle = false; invited = false }
+
+-- Nothing is on offer.
+abbrev pub no_offer : Offer
+no_offer = record { writing = None; retired = false }
 
 -- Places of queued operations.
 unfoldable pub queue_places : Board → List ℕ
@@ -50,7 +55,7 @@ Named ps b = All (Names ps) (listed b.log.traces)
 -- A unit that is free has no place of the pool, unless its result is on offer.
 abbrev pub Vacant : Board → Type 0
 Vacant b =
-    (g : Legend) (i : ℕ) → (unit_at (view_units g b.units) i).busy ≡ false → (i ≡ b.offer.writing) ⊎ (get_or (places b.units) i 80 ≡ 80)
+    (g : Legend) (i : ℕ) → (unit_at (view_units g b.units) i).busy ≡ false → (b.offer.writing ≡ Some i) ⊎ (get_or (places b.units) i 80 ≡ 80)
 
 -- While a cycle is open: few waits, no redirect among them, all of units; and nothing has left yet.
 pub record Open (b : Board) : Type 0 where
@@ -93,7 +98,7 @@ pub record Starts (b r : Board) (f : State → State) : Type 0 where
   pub places : places r.units ≡ places b.units
   pub queue : queue_places r ≡ queue_places b
   pub begun : Open r
-  pub vacant : 64 ≤ b.offer.writing → Vacant b → Vacant r
+  pub vacant : b.offer.writing ≡ None → Vacant b → Vacant r
   pub looks : (x : Frame) → Looks x b → Looks x r
   pub known : r.claims.len ≡ b.claims.len
 
@@ -154,8 +159,8 @@ pub record Completes (b : Board) (i : ℕ) (r : Board) : Type 0 where
   pub waits : listed r.log.traces ≡ listed b.log.traces
   pub apart : Apart b → Apart r
   pub named : Named (places b.units) b → Named (unit_places r) r
-  pub vacant : i ≡ b.offer.writing → Vacant b → Vacant r
-  pub offer : r.offer.writing ≡ 64
+  pub vacant : b.offer.writing ≡ Some i → Vacant b → Vacant r
+  pub offer : r.offer.writing ≡ None
   pub looks : (x : Frame) → Looks x b → Looks x r
   pub known : r.claims.len ≡ b.claims.len
 
@@ -167,20 +172,21 @@ pub record Closes (b r : Board) : Type 0 where
   pub apart : Apart b → Apart r
   pub named : Open b → Named (unit_places r) r
   pub vacant : Vacant b → Vacant r
-  pub offer : 64 ≤ r.offer.writing
+  pub offer : r.offer.writing ≡ None
   pub looks : (x : Frame) → Looks x b → Looks x r
   pub known : r.claims.len ≡ b.claims.len
 
 abbrev pub with_frame_rows : List Row → Frame → Frame
 with_frame_rows rs x = record { legend = x.legend; machine = x.machine; rows = rs; next = x.next }
 
--- A redirect, if there is one: the model also pushes cells to the rows. With the queue dropped only the names known are held.
+-- A redirect, if there is one: the model also pushes cells to the rows. Where there is one, the queue is empty after it.
 pub record Redirects (b r : Board) (target : Option ℕ) : Type 0 where
   pub is
       : (x : Frame)
       → view_board (with_frame_rows (redirected target (clear_status (view_board x b))).log.rows x) r
       ≡ redirected target (clear_status (view_board x b))
   pub step : Advances 1 b r
+  pub units : r.units ≡ b.units
   pub vacant : Vacant b → Vacant r
   pub offer : r.offer ≡ b.offer
   pub stays : target ≡ None → (x : Frame) → Looks x b → Looks x r
@@ -200,6 +206,7 @@ pub record Works (b r : Board) : Type 0 where
 pub record Invites (b : Board) (depth : ℕ) (r : Board) : Type 0 where
   pub is : (x : Frame) → x.machine.depth ≡ depth → view_board x r ≡ invite (view_board x b)
   pub ok : BoardOk r
+  pub units : r.units ≡ b.units
   pub still : Still b r
 
 -- All of these unfold where a line says `unfolding placing`.

@@ -1,19 +1,27 @@
 // What a cycle works on: units, queue, claims, the cycle's waits and counters, and the flags (pipeline/ooo/scoreboard.rs, ScoreboardPipeline).
 #![tactic(auto)]
 
-ghost use Rattle.std.specs.Prelude.{◌≡◌, true, false, ◌||◌, ◌≤◌, ◌<◌, replicate};
+ghost use Rattle.std.specs.Prelude.{◌≡◌, false, ◌||◌, ◌≤◌, ◌<◌, replicate, Some};
 ghost use Rattle.laws.specs.Lists.{All};
-ghost use Rattle.model.specs.State.{with_front, with_turn, marks};
-ghost use Rattle.model.specs.Write.{offered_branch, retire, retry, stopped, abandon};
-ghost use Rattle.model.specs.Scoreboard.{may_fetch, invite};
+ghost use Rattle.model.specs.Write.{retire, retry, stopped, halt, fault};
+ghost use Rattle.model.specs.Scoreboard.{may_fetch, invite, idle};
 ghost use Rattle.op.specs.Chars.{view_text};
-ghost use Rattle.stalls.specs.View.{listed, LogOk};
+ghost use Rattle.stalls.specs.View.{listed};
 ghost use Rattle.stalls.specs.Promises.{NoRedirect};
 ghost use Rattle.bank.specs.View.{slots, places, UnitsOk, UnitKnows};
-ghost use Rattle.slots.specs.View.{units_of, Sized};
-ghost use Rattle.flight.specs.View.{QueueOk};
-ghost use Rattle.board.specs.View.{Frame, view_board, board_of, BoardOk};
-ghost use Rattle.board.specs.Promises.{no_front, Fresh, Opens, Stays, Drops, Completes, Closes, Redirects, Invites};
+ghost use Rattle.board.specs.View.{Frame, view_board, BoardOk};
+ghost use Rattle.board.specs.Promises.{
+  no_front,
+  no_offer,
+  Fresh,
+  Opens,
+  Stays,
+  Drops,
+  Completes,
+  Closes,
+  Redirects,
+  Invites,
+};
 
 use bank::Units;
 use flight::Queue;
@@ -29,10 +37,10 @@ pub struct Marks {
     pub system: bool,
 }
 
-// The unit whose result is on offer, 64 for none; whether it was retired.
+// The unit whose result is on offer, and whether it was retired.
 #[derive(Clone, Copy)]
 pub struct Offer {
-    pub writing: usize,
+    pub writing: Option<usize>,
     pub retired: bool,
 }
 
@@ -60,18 +68,15 @@ pub struct Board {
     pub status: Option<Text>,
 }
 
-// A board without its units, which are lent: rows of bytes and numbers, of which the first n count.
-#[derive(Clone, Copy)]
-pub struct Sequencer {
-    pub fetch_pc: u64,
-    pub queue: Queue,
-    pub offer: Offer,
-    pub claims: Claims,
-    pub front: Front,
-    pub log: Log,
-    pub marks: Marks,
-    pub gone: u8,
-    pub status: Option<Text>,
+impl Offer {
+    fn none() -> Offer
+        ensures { result ≡ no_offer }
+    {
+        Offer {
+            writing: None,
+            retired: false,
+        }
+    }
 }
 
 impl Front {
@@ -107,10 +112,7 @@ impl Board {
             units,
             fetch_pc: entry,
             queue: Queue::new(),
-            offer: Offer {
-                writing: 64,
-                retired: false,
-            },
+            offer: Offer::none(),
             claims: Claims::new(),
             front: Front::new(),
             log: Log::new(),
@@ -123,157 +125,119 @@ impl Board {
         }
     }
 
-    // model: Write.retry
-    pub fn retry(mut self, reason: Text) -> Board
-        requires board_ok { BoardOk self }
-        requires writing_bound { self.offer.writing < 64 }
-        requires len_bound { reason.len ≤ 64 }
-        ensures { Stays self result (retry (view_text reason)) }
+    // Cycles rise by 1, the wait list and the hazards are cleared; a start ends an invitation.
+    // model: Write.open_cycle
+    pub fn open(&mut self)
+        requires { BoardOk self.old }
+        ensures { Opens self.old self.new }
     {
-        self.units.set_busy(self.offer.writing, true);
-        self.status = Some(reason);
-        self.offer.writing = 64;
-        self.offer.retired = false;
-        self
+        self.units.clear_hazards();
+        self.queue.clear_hazards();
+        self.log.open();
+        self.front.in_cycle = true;
+        self.front.invited = false;
+        self.gone = 80;
     }
 
-    // model: Write.abandon, and the invitation ends
-    fn abandon(mut self) -> Board
-        requires { BoardOk self }
-        ensures { Drops self result (λ s. with_front (with_turn s.front.in_cycle false s.front) (abandon s)) }
+    // model: Write.retire
+    #[tactic(auto, using(crate::proofs::Parts::offer_branch, crate::proofs::Parts::looks_same), unfolding(crate::specs::View::boards, crate::specs::Promises::placing, stalls::specs::View::view_log, model::specs::Write::retire))]
+    pub fn retire(&mut self, at: usize)
+        requires board_ok { BoardOk self.old }
+        requires offer { self.old.offer.writing ≡ Some at }
+        ensures does { Stays self.old self.new retire }
+        ensures units { self.new.units ≡ self.old.units }
+    {
+        stalls::stats::count_retired(&mut self.log.stats, self.units.items[at].redirects);
+        self.offer.retired = true;
+    }
+
+    // model: Write.retry
+    #[tactic(auto, using(crate::proofs::Parts::offer_inside))]
+    pub fn retry(&mut self, at: usize, reason: Text)
+        requires board_ok { BoardOk self.old }
+        requires offer { self.old.offer.writing ≡ Some at }
+        requires len_bound { reason.len ≤ 64 }
+        ensures { Stays self.old self.new (retry (view_text reason)) }
+    {
+        self.units.set_busy(at, true);
+        self.status = Some(reason);
+        self.offer = Offer::none();
+    }
+
+    // model: Write.abandon, and the invitation ends; the status is a note
+    fn stop(&mut self, note: Text)
+        requires board_ok { BoardOk self.old }
+        requires len_bound { note.len ≤ 64 }
+        ensures { Drops self.old self.new (stopped false false (view_text note)) }
     {
         self.units.clear();
         self.queue.flush();
         self.claims.clear_claims();
         self.marks.branch = false;
         self.marks.system = false;
-        self.offer.writing = 64;
-        self.offer.retired = false;
+        self.offer = Offer::none();
         self.front.invited = false;
-        self
+        self.status = Some(note);
     }
 
-    // model: Write.stopped, of a halt or a fault
-    pub fn stopped(self, halts: bool, faults: bool, note: Text) -> Board
-        requires board_ok { BoardOk self }
+    // model: Write.halt
+    pub fn halt(&mut self)
+        requires { BoardOk self.old }
+        ensures { Drops self.old self.new halt }
+    {
+        self.stop(Text::from_slice(b"halted"));
+        self.front.halted = true;
+    }
+
+    // model: Write.fault
+    #[tactic(auto, unfolding(crate::specs::View::boards, crate::specs::Promises::placing, stalls::specs::View::logs, model::specs::Write::writing))]
+    pub fn fault(&mut self, note: Text)
+        requires board_ok { BoardOk self.old }
         requires len_bound { note.len ≤ 64 }
-        ensures { Drops self result (stopped halts faults (view_text note)) }
+        ensures { Drops self.old self.new (fault (view_text note)) }
     {
-        let mut b = self.abandon();
-        b.status = Some(note);
-        b.front.halted = halts || b.front.halted;
-        b.front.faulted = faults || b.front.faulted;
-        b
-    }
-}
-
-impl Sequencer {
-    // A board's parts but for its units.
-    pub fn of(board: Board) -> Sequencer
-        ensures { board ≡ board_of result board.units }
-    {
-        Sequencer {
-            fetch_pc: board.fetch_pc,
-            queue: board.queue,
-            offer: board.offer,
-            claims: board.claims,
-            front: board.front,
-            log: board.log,
-            marks: board.marks,
-            gone: board.gone,
-            status: board.status,
-        }
-    }
-
-    // With units again.
-    pub fn board(self, units: Units) -> Board
-        ensures { result ≡ board_of self units }
-    {
-        Board {
-            units,
-            fetch_pc: self.fetch_pc,
-            queue: self.queue,
-            offer: self.offer,
-            claims: self.claims,
-            front: self.front,
-            log: self.log,
-            marks: self.marks,
-            gone: self.gone,
-            status: self.status,
-        }
-    }
-
-    // Cycles rise by 1, the wait list and the hazards are cleared; a start ends an invitation.
-    // model: Write.open_cycle
-    pub fn opened(mut self, us: &mut [[u8; 40]], ss: &mut [u64], n: usize) -> Sequencer
-        requires sized { Sized us.old ss.old }
-        requires board_ok { BoardOk (board_of self (units_of us.old ss.old n)) }
-        ensures is { Opens (board_of self (units_of us.old ss.old n)) (board_of result (units_of us.new ss.new n)) }
-        ensures size { Sized us.new ss.new }
-    {
-        stepping::clear_hazards(us, ss, n);
-        self.queue.clear_hazards();
-        self.log.open();
-        self.front.in_cycle = true;
-        self.front.invited = false;
-        self.gone = 80;
-        self
-    }
-
-    // model: Write.retire
-    pub fn retire(mut self, branch: bool) -> Sequencer
-        requires { LogOk self.log }
-        ensures { (us : Units) → BoardOk (board_of self us) → self.offer.writing < 64 → ((x : Frame) → branch ≡ offered_branch (view_board x (board_of self us))) → Stays (board_of self us) (board_of result us) retire }
-    {
-        stalls::stats::count_retired(&mut self.log.stats, branch);
-        self.offer.retired = true;
-        self
+        self.stop(note);
+        self.front.faulted = true;
     }
 
     // complete_write and the cycle's end.
     // model: Scoreboard.closed
-    pub fn closed(mut self, us: &mut [[u8; 40]], ss: &mut [u64], n: usize) -> Sequencer
-        requires sized { Sized us.old ss.old }
-        requires board_ok { BoardOk (board_of self (units_of us.old ss.old n)) }
-        ensures is { Closes (board_of self (units_of us.old ss.old n)) (board_of result (units_of us.new ss.new n)) }
-        ensures size { Sized us.new ss.new }
+    #[tactic(auto, using(crate::proofs::Parts::offer_inside, crate::proofs::Parts::looks_same, crate::proofs::Counting::named_units), unfolding(crate::specs::View::boards, crate::specs::Promises::placing, model::specs::Scoreboard::scoreboard, model::specs::Issue::issuing))]
+    pub fn close(&mut self)
+        requires { BoardOk self.old }
+        ensures { Closes self.old self.new }
     {
-        let at = self.offer.writing;
         self.front.in_cycle = false;
         self.front.invited = false;
-        if 64 <= at {
-            return self;
+        if let Some(at) = self.offer.writing {
+            self.complete(at);
         }
-        self.completed(us, ss, n, at)
     }
 
     // model: Issue.complete_at
-    fn completed(mut self, us: &mut [[u8; 40]], ss: &mut [u64], n: usize, at: usize) -> Sequencer
-        requires sized { Sized us.old ss.old }
-        requires board_ok { BoardOk (board_of self (units_of us.old ss.old n)) }
-        requires at_lt_n { at < n }
-        ensures is { Completes (board_of self (units_of us.old ss.old n)) at (board_of result (units_of us.new ss.new n)) }
-        ensures size { Sized us.new ss.new }
+    #[tactic(auto, using(bank::proofs::Steps::unit_ok))]
+    fn complete(&mut self, at: usize)
+        requires board_ok { BoardOk self.old }
+        requires at_lt_len { at < self.old.units.len }
+        ensures { Completes self.old at self.new }
     {
-        let u = slots::unit_at(us, ss, at);
-        stepping::completed(us, ss, n, at);
+        let u = self.units.items[at];
+        self.units.complete(at);
         self.claims.release_all(u.operands.writes(), at as u8);
         self.marks.branch = !u.redirects && self.marks.branch;
         self.marks.system = !is_system(u.class) && self.marks.system;
-        self.offer.writing = 64;
-        self.offer.retired = false;
+        self.offer = Offer::none();
         self.gone = u.place;
-        self
     }
 
     // The status goes; on a redirect the queue too.
     // model: Issue.redirected, after Scoreboard.clear_status; the rows' cells aside
-    pub fn redirected(mut self, redirect: Option<u64>) -> Sequencer
-        requires queue_ok { QueueOk self.queue }
-        requires log_ok { LogOk self.log }
-        requires len_bound { self.log.traces.len ≤ 64 }
-        requires all { All NoRedirect (listed self.log.traces) }
-        ensures { (us : Units) → BoardOk (board_of self us) → Redirects (board_of self us) (board_of result us) redirect }
+    #[tactic(auto, using(crate::proofs::Parts::looks_same), unfolding(crate::specs::View::boards, crate::specs::Promises::placing, stalls::specs::View::logs, model::specs::Issue::redirected, model::specs::Scoreboard::clear_status))]
+    pub fn redirect(&mut self, redirect: Option<u64>)
+        requires board_ok { BoardOk self.old }
+        requires len_bound { self.old.log.traces.len ≤ 64 }
+        requires all { All NoRedirect (listed self.old.log.traces) }
+        ensures { Redirects self.old self.new redirect }
     {
         self.status = None;
         if let Some(target) = redirect {
@@ -281,26 +245,32 @@ impl Sequencer {
             self.queue.flush();
             self.fetch_pc = target;
         }
-        self
+    }
+
+    // model: Scoreboard.idle
+    #[tactic(auto, using(crate::proofs::Parts::idle_so))]
+    pub fn is_idle(&self) -> bool
+        requires { BoardOk self.now }
+        ensures { (x : Frame) → result ≡ idle (view_board x self.now) }
+    {
+        self.queue.len == 0 && !self.units.any_busy()
     }
 
     // model: Scoreboard.may_fetch
-    fn may_fetch(self, us: &[[u8; 40]], ss: &[u64], n: usize, depth: usize) -> bool
-        requires sized { Sized us.now ss.now }
-        requires board_ok { BoardOk (board_of self (units_of us.now ss.now n)) }
-        ensures { (x : Frame) → x.machine.depth ≡ depth → result ≡ may_fetch (view_board x (board_of self (units_of us.now ss.now n))) }
+    #[tactic(auto, using(crate::proofs::Parts::fetch_so))]
+    fn may_fetch(&self, depth: usize) -> bool
+        requires { BoardOk self.now }
+        ensures { (x : Frame) → x.machine.depth ≡ depth → result ≡ may_fetch (view_board x self.now) }
     {
-        self.queue.len < depth
-            && (self.front.enabled || self.queue.len == 0 && !stepping::any_busy(us, ss, n))
+        self.queue.len < depth && (self.front.enabled || self.is_idle())
     }
 
     // model: Scoreboard.invite
-    pub fn invite(mut self, us: &[[u8; 40]], ss: &[u64], n: usize, depth: usize) -> Sequencer
-        requires sized { Sized us.now ss.now }
-        requires board_ok { BoardOk (board_of self (units_of us.now ss.now n)) }
-        ensures { Invites (board_of self (units_of us.now ss.now n)) depth (board_of result (units_of us.now ss.now n)) }
+    #[tactic(auto, unfolding(crate::specs::View::boards, crate::specs::Promises::placing, model::specs::Scoreboard::invite))]
+    pub fn invite(&mut self, depth: usize)
+        requires { BoardOk self.old }
+        ensures { Invites self.old depth self.new }
     {
-        self.front.invited = self.may_fetch(us, ss, n, depth);
-        self
+        self.front.invited = self.may_fetch(depth);
     }
 }

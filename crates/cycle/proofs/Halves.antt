@@ -1,6 +1,5 @@
 -- The two halves of a cycle: registers stay known, waits name places of units, and a unit that has read its operands tells the wait that it told before.
-use Rattle.std.proofs.Common.{ℕ, ◌≤◌, ◌<◌, unwrap_or, arith}
-use Rattle.std.specs.Option.{IfSome}
+use Prim.Native.Nat.{ℕ}
 use mathlib.Core.Path.{◌≡◌, refl, sym, ap, ◌∙◌}
 use mathlib.Core.Bool.{Bool, true, false, cond, not, ◌&&◌}
 use Rattle.std.specs.Prelude.{Option, None, Some, option_map, slice_get}
@@ -21,8 +20,6 @@ use Rattle.model.specs.Traces.{Trace as Wait, waits_for, trace_of, EXECUTE, ISSU
 use Rattle.model.specs.Units.{FunctionalUnit, with_busy, idle_unit, unit_at, in_phase, mark_hazard, waits, read_one, tick, begin}
 use Rattle.model.specs.Write.{Blocked, blocked_kind, mark_blocked, take_out}
 use Rattle.model.specs.Issue.{producer_text, wait_detail, wait_trace}
-use Rattle.registers.specs.View.{claimed}
-use Rattle.registers.proofs.Owing.{claimed-some, claimed-none}
 use Rattle.stalls.specs.declared.TraceList.{TraceList}
 use Rattle.stalls.specs.declared.Log.{Log}
 use Rattle.stalls.specs.View.{Frame as LogFrame, listed, TraceListOk}
@@ -62,20 +59,11 @@ pub told_names : {us : Units} {l r : Log} {ws : LogFrame → List Wait} (qs : Li
 told_names {us} qs h e a =
     tells_all (Names qs) e (λ t w. (names_more (places us) qs h (t ∷ []) (record { mine = w.mine; other = w.other }, tt)).0) a
 
--- ── The offer ───────────────────────────────────────────────────────────────
-
--- A unit found among at most 64, as the number of its place; 64 for none.
-pub offered : (o : Option ℕ) {n : ℕ} → n ≤ 64 → IfSome o (λ (i : ℕ). i < n) → claimed (unwrap_or o 64) ≡ o
-offered None few h = claimed-none (omega arith)
-offered (Some i) few h = claimed-some (omega (arith, few, h))
-
-pub offered-inside : (o : Option ℕ) {n : ℕ} → IfSome o (λ (i : ℕ). i < n) → unwrap_or o 64 < 64 → unwrap_or o 64 < n
-offered-inside None h w = absurd (omega arith)
-offered-inside (Some i) h w = h
+-- ── The log ─────────────────────────────────────────────────────────────────
 
 -- Nothing is listed.
-pub none-listed : {t : TraceList} → TraceListOk t → listed t ≡ [] → t.len ≡ 0
-none-listed ok e = sym (listed-length ok) ∙ ap length e
+pub none_listed : {t : TraceList} → TraceListOk t → listed t ≡ [] → t.len ≡ 0
+none_listed ok e = sym (listed-length ok) ∙ ap length e
 
 -- ── A unit that has read its operands ───────────────────────────────────────
 

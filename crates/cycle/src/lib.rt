@@ -5,72 +5,62 @@ ghost use Rattle.std.specs.Prelude.{◌≡◌, ℕ, [], ◌≤◌, ◌<◌};
 ghost use Rattle.std.specs.Option.{IfSome};
 ghost use Rattle.model.specs.Write.{take_out, offer_found, start_cycle};
 ghost use Rattle.stalls.specs.View.{listed};
-ghost use Rattle.bank.specs.View.{view_units, places};
-ghost use Rattle.slots.specs.View.{units_of, Sized, Lent, LentAre};
+ghost use Rattle.bank.specs.View.{view_units, places, UnitsOk, UnitsAre};
 ghost use Rattle.writing.specs.View.{view_tried, TriedOk};
-ghost use Rattle.board.specs.View.{board_of, BoardOk};
+ghost use Rattle.board.specs.View.{BoardOk};
 ghost use Rattle.board.specs.Promises.{Starts, Works};
 
-use board::Sequencer;
+use bank::Units;
+use board::{Board, Offer};
 use writing::Tried;
 
 // model: Write.take_out
 #[tactic(auto, unfolding(model::specs::Write::take_out))]
-fn taken_out(us: &mut [[u8; 40]], ss: &mut [u64], n: usize, found: Option<usize>)
-    requires lent { Lent us.old ss.old n }
-    requires found_lt_n { IfSome found (λ (at : ℕ). at < n) }
-    ensures { LentAre us.new ss.new n (λ g. take_out found (view_units g (units_of us.old ss.old n))) (places (units_of us.old ss.old n)) }
+fn take_out(units: &mut Units, found: Option<usize>)
+    requires units_ok { UnitsOk units.old }
+    requires found_lt_len { IfSome found (λ (at : ℕ). at < units.old.len) }
+    ensures { UnitsAre units.new (λ g. take_out found (view_units g units.old)) (places units.old) }
 {
     if let Some(at) = found {
-        stepping::set_busy(us, ss, n, at, false);
+        units.set_busy(at, false);
     }
 }
 
 // model: Write.offer_found
-fn offer_found(
-    mut board: Sequencer,
-    us: &mut [[u8; 40]],
-    ss: &mut [u64],
-    n: usize,
-    tried: &Tried,
-) -> Sequencer
-    requires sized { Sized us.old ss.old }
-    requires board_ok { BoardOk (board_of board (units_of us.old ss.old n)) }
-    requires tried_ok { TriedOk (units_of us.old ss.old n) tried.now }
-    requires traces_value { listed board.log.traces ≡ [] }
-    requires gone_value { board.gone ≡ 80 }
-    ensures is { Starts (board_of board (units_of us.old ss.old n)) (board_of result (units_of us.new ss.new n)) (offer_found (view_tried tried.now)) }
-    ensures size { Sized us.new ss.new }
+#[tactic(auto, using(crate::proofs::Halves::none_listed))]
+fn offer_found(board: &mut Board, tried: &Tried)
+    requires board_ok { BoardOk board.old }
+    requires tried_ok { TriedOk board.old.units tried.now }
+    requires traces_value { listed board.old.log.traces ≡ [] }
+    requires gone_value { board.old.gone ≡ 80 }
+    ensures { Starts board.old board.new (offer_found (view_tried tried.now)) }
 {
-    blocking::list_blocked(us, ss, n, tried, &mut board.log);
-    writing::mark_blocked(us, ss, n, tried);
-    taken_out(us, ss, n, tried.found);
-    board.offer.writing = tried.found.unwrap_or(64);
-    board.offer.retired = false;
-    board
+    blocking::list_blocked(&board.units, tried, &mut board.log);
+    writing::mark_blocked(&mut board.units, tried);
+    take_out(&mut board.units, tried.found);
+    board.offer = Offer {
+        writing: tried.found,
+        retired: false,
+    };
 }
 
 // model: Write.start_cycle
-pub fn start(board: Sequencer, us: &mut [[u8; 40]], ss: &mut [u64], n: usize) -> Sequencer
-    requires sized { Sized us.old ss.old }
-    requires board_ok { BoardOk (board_of board (units_of us.old ss.old n)) }
-    ensures is { Starts (board_of board (units_of us.old ss.old n)) (board_of result (units_of us.new ss.new n)) start_cycle }
-    ensures size { Sized us.new ss.new }
+#[tactic(auto, unfolding(board::specs::View::view_board, model::specs::Write::start_cycle))]
+pub fn start(board: &mut Board)
+    requires { BoardOk board.old }
+    ensures { Starts board.old board.new start_cycle }
 {
-    let opened = board.opened(us, ss, n);
-    let tried = writing::writable_unit(us, ss, n);
-    offer_found(opened, us, ss, n, &tried)
+    board.open();
+    let tried = writing::writable_unit(&board.units);
+    offer_found(board, &tried);
 }
 
 // model: Issue.tick_execute, start_ready, read_operands
-pub fn stepped(mut board: Sequencer, us: &mut [[u8; 40]], ss: &mut [u64], n: usize) -> Sequencer
-    requires sized { Sized us.old ss.old }
-    requires board_ok { BoardOk (board_of board (units_of us.old ss.old n)) }
-    requires len_bound { board.log.traces.len ≤ 65 }
-    ensures is { Works (board_of board (units_of us.old ss.old n)) (board_of result (units_of us.new ss.new n)) }
-    ensures size { Sized us.new ss.new }
+pub fn step(board: &mut Board)
+    requires board_ok { BoardOk board.old }
+    requires len_bound { board.old.log.traces.len ≤ 65 }
+    ensures { Works board.old board.new }
 {
-    stepping::stepped(us, ss, n);
-    telling::list_waits(us, ss, n, &mut board.log);
-    board
+    board.units.step();
+    telling::list_waits(&board.units, &mut board.log);
 }

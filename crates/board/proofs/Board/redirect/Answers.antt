@@ -21,11 +21,11 @@ use Rattle.stalls.specs.View.{view_trace, listed, view_traces, view_stats, view_
 use Rattle.stalls.specs.Promises.{redirect_trace, names_register, Known}
 use Rattle.stalls.proofs.Logged.{listed-length}
 use Rattle.board.specs.declared.Board.{Board}
-use Rattle.board.specs.View.{known_names, log_frame, board_of, boards}
-use Rattle.board.specs.Promises.{queue_places, placing, Names, unit_places, with_frame_rows, Redirects}
-use Rattle.board.proofs.Parts.{state-by, frame-with, alike_self, looks-kept}
+use Rattle.board.specs.View.{known_names, log_frame, boards}
+use Rattle.board.specs.Promises.{queue_places, Names, unit_places, with_frame_rows, Redirects}
+use Rattle.board.proofs.Parts.{state-by, frame-with}
 use Rattle.board.proofs.Counting.{dropped-apart}
-use Rattle.board.proofs.Sequencer.redirected.Goals as goal
+use Rattle.board.proofs.Board.redirect.Goals as goal
 
 redirects-so : {b r : Board} {t u : Option ℕ} → t ≡ u → Redirects b r t → Redirects b r u
 redirects-so {b} {r} e = subst (Redirects b r) e
@@ -36,8 +36,8 @@ redirect-known n e = absurd (let z : ◌≡◌ {A = ℕ} 0 1 = cc in omega arith
 
 pub returns-in-Some : goal.returns-in-Some
 unfolding boards view_log view_traces view_trace redirected flush clear_status queue_places
-returns-in-Some c = λ us ok.
-    let b = board_of c.args.self us in
+returns-in-Some c = let b = c.args.self.now in
+    let ok = c.requires.board_ok in
     let f = c.flush.ensures in
     let h = c.redirect.ensures in
     let n = b.claims.len in
@@ -85,42 +85,10 @@ returns-in-Some c = λ us ok.
                 (All-append (Names (unit_places b)) (listed b.log.traces) (redirect_trace ∷ []) a
                 (record { mine = inl refl; other = inl refl }, tt));
           };
+      units = refl;
       vacant = λ v. v;
       offer = refl;
       stays = λ e. none-some _ (sym e);
       dropped = λ t e. f.entries;
-      known = refl;
-    })
-
-pub returns-in_default : goal.returns-in_default
-unfolding boards view_log view_traces view_trace redirected clear_status placing
-returns-in_default c = λ us ok.
-    let b = board_of c.args.self us in
-    redirects-so (sym c.in_default.is)
-    (record {
-      is =
-          λ x. refl;
-      step =
-          record {
-            ok =
-                record {
-                  units = ok.units;
-                  queue = ok.queue;
-                  claims = ok.claims;
-                  log = ok.log;
-                  offer = ok.offer;
-                  status = tt;
-                  gone = ok.gone;
-                  knows = ok.knows;
-                  known = ok.known;
-                };
-            few = omega arith;
-            apart = λ a. a;
-            named = λ a. a;
-          };
-      vacant = λ v. v;
-      offer = refl;
-      stays = λ e x. looks-kept x b _ refl (alike_self b.queue);
-      dropped = λ t e. none-some t e;
       known = refl;
     })
