@@ -30,7 +30,18 @@ use Rattle.flight.specs.declared.Queue.{Queue}
 use Rattle.flight.specs.View.{Legend, view_queued, view_queue, entries}
 use Rattle.flight.proofs.Entries.{view-entries}
 use Rattle.timeline.specs.declared.WaitForm.{WaitForm}
-use Rattle.timeline.specs.declared.WaitForm.TheVariants.{Overwrites, MemoryOrder, Drains, WaitsFor, WaitsForOlder, BehindBranch, BehindSystem, StillWrites, AllBusy, RedirectTo}
+use Rattle.timeline.specs.declared.WaitForm.TheVariants.{
+  Overwrites,
+  MemoryOrder,
+  Drains,
+  WaitsFor,
+  WaitsForOlder,
+  BehindBranch,
+  BehindSystem,
+  StillWrites,
+  AllBusy,
+  RedirectTo,
+}
 use Rattle.timeline.specs.Waits.{detail_of}
 use Rattle.stalls.specs.declared.Trace.{Trace}
 use Rattle.stalls.specs.declared.Log.{Log}

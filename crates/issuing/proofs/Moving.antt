@@ -224,16 +224,16 @@ module _ {b r : Board} {q : Queued} {i : ℕ} (ok : BoardOk b) (here : i < b.uni
   pub places-vacant : Vacant b → Vacant r
   places-vacant v g j t = ⊎_elim same other (true-or-false (eqb j i))
     where
-      same : eqb j i ≡ true → (j ≡ r.offer.writing) ⊎ (get_or (places r.units) j 80 ≡ 80)
+      same : eqb j i ≡ true → (r.offer.writing ≡ Some j) ⊎ (get_or (places r.units) j 80 ≡ 80)
       same d =
           absurd
           (let y : (unit_at (view_units g r.units) i).busy ≡ false = subst (λ k. (unit_at (view_units g r.units) k).busy ≡ false) (eqb-true j i d) t in
           let w = taken-up g in let z : ◌≡◌ {A = ℕ} 0 1 = cc in omega arith)
 
-      other : eqb j i ≡ false → (j ≡ r.offer.writing) ⊎ (get_or (places r.units) j 80 ≡ 80)
+      other : eqb j i ≡ false → (r.offer.writing ≡ Some j) ⊎ (get_or (places r.units) j 80 ≡ 80)
       other d =
           let n = eqb-false j i d in
-          subst (λ o. (j ≡ o.writing) ⊎ (get_or (places r.units) j 80 ≡ 80)) (sym e.offer)
-          (subst (λ l. (j ≡ b.offer.writing) ⊎ (get_or l j 80 ≡ 80)) (sym e.places)
-          (subst (λ p. (j ≡ b.offer.writing) ⊎ (p ≡ 80)) (sym (get_or-set_other (places b.units) i j q.place 80 n))
+          subst (λ o. (o.writing ≡ Some j) ⊎ (get_or (places r.units) j 80 ≡ 80)) (sym e.offer)
+          (subst (λ l. (b.offer.writing ≡ Some j) ⊎ (get_or l j 80 ≡ 80)) (sym e.places)
+          (subst (λ p. (b.offer.writing ≡ Some j) ⊎ (p ≡ 80)) (sym (get_or-set_other (places b.units) i j q.place 80 n))
           (v g j (sym (other-unit g n) ∙ t))))

@@ -1,5 +1,5 @@
--- What the issue of a cycle says of the board that it hands back.
-use Rattle.std.specs.Prelude.{◌+◌, ◌≤◌, ◌≡◌}
+-- What the issue of a cycle says of the board that it leaves.
+use Rattle.std.specs.Prelude.{◌+◌, ◌≤◌, ◌≡◌, None}
 use Rattle.model.specs.Issue.{issue}
 use Rattle.config.specs.declared.Machine.{Machine}
 use Rattle.config.specs.View.{view_machine}
@@ -14,6 +14,6 @@ pub record Issues (b : Board) (m : Machine) (r : Board) : Type 0 where
   pub few : r.log.traces.len ≤ b.log.traces.len + 1
   pub apart : Apart b → Apart r
   -- A free unit's place would be lost: no unit has one, where nothing is on offer.
-  pub named : 64 ≤ b.offer.writing → Vacant b → Named (unit_places b) b → Named (taken_places r) r
+  pub named : b.offer.writing ≡ None → Vacant b → Named (unit_places b) b → Named (taken_places r) r
   pub vacant : Vacant b → Vacant r
   pub looks : (x : Frame) → Looks x b → Looks x r

@@ -1,5 +1,5 @@
--- What the parts of an issue hand back.
-use Rattle.std.specs.Prelude.{ℕ, ◌+◌, ◌≤◌, max, ◌≡◌, ◌⊎◌, List, [], ◌∷◌, ◌++◌, set, replicate, None, Some}
+-- What the parts of an issue leave.
+use Rattle.std.specs.Prelude.{ℕ, ◌+◌, ◌≤◌, max, ◌≡◌, ◌⊎◌, List, [], ◌∷◌, ◌++◌, set, replicate, None, Some, Result, Ok, Err}
 use Rattle.laws.specs.Lists.{rest, modify, find_at}
 use Rattle.model.specs.Config.{spec_index}
 use Rattle.model.specs.Op.{with_hazard}
@@ -24,8 +24,7 @@ use Rattle.board.specs.declared.Board.{Board}
 use Rattle.board.specs.View.{Frame, known_names, log_frame, view_board, BoardOk}
 use Rattle.board.specs.Promises.{queue_places, taken_places, Apart, Named, Vacant, Looks, unit_places}
 use Rattle.board.proofs.Parts.{Alike}
-use Rattle.issuing.specs.declared.Way.{Way}
-use Rattle.issuing.specs.declared.Way.TheVariants.{Blocked, Into}
+use Rattle.issuing.specs.declared.Blocked.{Blocked}
 
 -- The operation at the front of the queue.
 abbrev pub Fronts : Queued → Board → Type 0
@@ -68,9 +67,12 @@ pub record Free (b : Board) (q : Queued) (m : Machine) (i : ℕ) : Type 0 where
   pub taken : taken (view_claims b.claims) (written q.operands) ≡ None
   pub free : (g : Legend) → find_at (is_free (spec_index (view_machine m).specs q.class)) 0 (view_units g b.units) ≡ Some i
 
-pub record Chooses (b : Board) (q : Queued) (m : Machine) (r : Way) : Type 0 where
-  pub blocked : (f : WaitForm) (n : ℕ) → r ≡ Blocked f n → StillWritten b q f n ⊎ Full b q m f n
-  pub into : (i : ℕ) → r ≡ Into i → Free b q m i
+abbrev pub blocked_of : WaitForm → ℕ → Blocked
+blocked_of f n = record { form = f; number = n }
+
+pub record Chooses (b : Board) (q : Queued) (m : Machine) (r : Result ℕ Blocked) : Type 0 where
+  pub blocked : (w : Blocked) → r ≡ Err w → StillWritten b q w.form w.number ⊎ Full b q m w.form w.number
+  pub into : (i : ℕ) → r ≡ Ok i → Free b q m i
 
 -- ── What comes of it ────────────────────────────────────────────────────────
 
@@ -120,6 +122,6 @@ pub record Goes (b : Board) (m : Machine) (f : Frame → State → State) (r : B
   pub ok : BoardOk r
   pub few : r.log.traces.len ≤ b.log.traces.len + 1
   pub apart : Apart b → Apart r
-  pub named : 64 ≤ b.offer.writing → Vacant b → Named (unit_places b) b → Named (taken_places r) r
+  pub named : b.offer.writing ≡ None → Vacant b → Named (unit_places b) b → Named (taken_places r) r
   pub vacant : Vacant b → Vacant r
   pub looks : (x : Frame) → Looks x b → Looks x r

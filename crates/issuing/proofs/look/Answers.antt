@@ -12,17 +12,17 @@ use Rattle.op.specs.Chars.{view_text}
 use Rattle.std.specs.Prelude.{option_map}
 use Rattle.stalls.specs.View.{listed}
 use Rattle.bank.specs.View.{slots}
-use Rattle.board.specs.View.{board_of, boards}
+use Rattle.board.specs.View.{boards}
 use Rattle.board.proofs.Parts.{state-by}
 use Rattle.issuing.proofs.Looking.{pad-count, all-below, through-most, knows_more, known_more, log-more}
 use mir.Syntax.{w8}
 use borrow.Author.Rules.{elem_Fits}
-use Rattle.issuing.proofs.looked.Goals as goal
+use Rattle.issuing.proofs.look.Goals as goal
 
-pub pad-requires : goal.pad-requires
-pad-requires c =
-    let x = c.args.front.operands in
-    let f = c.well_formed.1.0.1.1.1.0.1.1 in
+pub pad-requires-clause-len_bound : goal.pad-requires-clause-len_bound
+pad-requires-clause-len_bound c =
+    let x = c.args.operands in
+    let f = c.well_formed.1.0.1.1 in
     let r = all-below 256 x.sources (λ i. (elem_Fits w8 w8 x.sources _ i f.0.1.1 tt).fits) in
     let w = all-below 256 x.destinations (λ i. (elem_Fits w8 w8 x.destinations _ i f.1.0.1.1 tt).fits) in
     let m =
@@ -30,12 +30,13 @@ pad-requires c =
     (All-append (λ (k : ℕ). k < 256) (read x) (written x) (All-take (λ (k : ℕ). k < 256) x.sources_len x.sources r)
     (All-take (λ (k : ℕ). k < 256) x.destinations_len x.destinations w))
     in
-    record { claims_ok = c.requires.claims_ok; len_bound = omega (arith, m, c.through.ensures) }
+    omega (arith, m, c.through.ensures)
 
 pub returns : goal.returns
 unfolding boards
-returns c = λ us ok.
-    let b = board_of c.args.board us in
+returns c =
+    let b = c.args.board.now in
+    let ok = c.requires.board_ok in
     let h = c.pad.ensures in
     let t = c.through.ensures in
     let k =
@@ -45,9 +46,7 @@ returns c = λ us ok.
     record {
       claims = h.is ∙ ap (λ n. pad (view_claims b.claims) (replicate n [])) t;
       known = k;
-      is =
-          λ f. state-by refl refl refl refl refl refl refl
-          (log-more f (option_map view_text b.status) b.log more ok.known);
+      is = λ f. state-by refl refl refl refl refl refl refl (log-more f (option_map view_text b.status) b.log more ok.known);
       ok =
           record {
             units = ok.units;

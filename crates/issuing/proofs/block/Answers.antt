@@ -10,18 +10,20 @@ use Rattle.flight.specs.View.{view_queue, entries}
 use Rattle.registers.specs.View.{view_operands}
 use Rattle.stalls.specs.View.{view_trace, listed, view_log}
 use Rattle.stalls.specs.Promises.{Known}
-use Rattle.board.specs.View.{log_frame, board_of, boards}
+use Rattle.board.specs.View.{log_frame, boards}
 use Rattle.board.specs.Promises.{queue_places}
 use Rattle.board.proofs.Parts.{state-by}
+use Rattle.issuing.specs.Steps.{trace_by}
 use Rattle.issuing.proofs.Moving.{front-item, front_kept, one_more}
-use Rattle.issuing.proofs.blocked.Goals as goal
+use Rattle.issuing.proofs.block.Goals as goal
 
 pub returns : goal.returns
 unfolding boards queue_places
-returns c = λ us ok.
-    let b = board_of c.args.board us in
-    let w = c.args.form in
-    let n = c.args.number in
+returns c =
+    let b = c.args.board.now in
+    let w = c.args.blocked.form in
+    let n = c.args.blocked.number in
+    let ok = c.requires.board_ok in
     let e = c.block_front.ensures in
     let h = c.stall.ensures in
     let l = listed b.log.traces in
@@ -32,9 +34,7 @@ returns c = λ us ok.
           refl refl refl refl refl
           (h.is (log_frame x b)
           ∙ ap
-          (λ (y : Queued).
-          stall_all (view_trace (log_frame x b) b.log.traces.target (record { form = w; mine = y.place; other = 80; number = n }) ∷ [])
-          (view_log (log_frame x b) b.log))
+          (λ (y : Queued). stall_all (view_trace (log_frame x b) b.log.traces.target (trace_by w y n) ∷ []) (view_log (log_frame x b) b.log))
           (front-item ok.queue _ f));
       ok =
           record {
@@ -49,7 +49,7 @@ returns c = λ us ok.
             known = subst (All (Known b.claims.len)) (sym h.waits) (All-append (Known b.claims.len) l (_ ∷ []) ok.known (c.requires.number_lt_len, tt));
           };
       few = one_more _ ok.log h.ok h.waits;
-      waits = λ q f. h.waits ∙ ap (λ (y : Queued). l ++ record { form = w; mine = y.place; other = 80; number = n } ∷ []) (front-item ok.queue _ f);
+      waits = λ q f. h.waits ∙ ap (λ (y : Queued). l ++ trace_by w y n ∷ []) (front-item ok.queue _ f);
       units = refl;
       queue = ap (map (λ (x : Queued). x.place)) e.entries ∙ front_kept (λ (x : Queued). x.place) (λ x. refl) (entries b.queue);
       offer = refl;
