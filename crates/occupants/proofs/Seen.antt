@@ -1,23 +1,20 @@
 -- The units and the queue read whole: what the least of them, and one at a place, is to the model.
-use Prim.Native.Nat.{ℕ, zero, suc, ◌≤◌, ◌<◌}
+use Prim.Native.Nat.{ℕ, zero, suc, ◌<◌}
 use mathlib.Core.Path.{◌≡◌, refl, sym, ap, ap₂, subst, ◌∙◌}
 use mathlib.Core.Bool.{Bool, true, false, cond, ◌&&◌, ◌||◌}
 use mathlib.Core.List.{List, [], ◌∷◌, ◌++◌, map, map-map}
 use Rattle.std.specs.Prelude.{Option, None, Some, IfSome, option_map, filter, slice_get}
-use mathlib.Core.Logic.{⊎_elim}
-use Rattle.laws.specs.Optional.{value_or}
-use Rattle.laws.proofs.Tests.{cond-lt, cond-ge, lt-or-ge}
-use Rattle.registers.specs.View.{claimed as index_of}
+use Rattle.laws.proofs.Tests.{value_or-some}
 use Rattle.laws.specs.Means.{MeansFor}
 use Rattle.laws.specs.Lists.{All, keep, count}
 use native.Mathlib.Omega.{arith}
 use lib.Dec.{ltb}
-use lib.ListN.{length, length-map}
+use lib.ListN.{length, get_or}
 use lib.Seq.{length-take-le}
 use denote.Ref.{Bor}
 use Rattle.std.specs.List.{list_any}
 use Rattle.std.proofs.lemmas.Option.{slice_get-map}
-use Rattle.laws.proofs.Slices.{All-take, take-map, nth-get_or, nth_end}
+use Rattle.laws.proofs.Slices.{All-take, take-map, seen-nth}
 use Rattle.laws.proofs.Maps.{any-map, count_map}
 use Rattle.model.specs.Op.{Op}
 use Rattle.model.specs.Units.{FunctionalUnit, idle_unit, seq_of, is_busy, unit_op, unit_at}
@@ -30,6 +27,7 @@ use Rattle.units.specs.declared.Unit.{Unit as Slot}
 use Rattle.units.specs.View.{view_unit, UnitOk}
 use Rattle.bank.specs.declared.Units.{Units}
 use Rattle.bank.specs.View.{view_units, slots, UnitsOk}
+use Rattle.bank.proofs.Steps.{units-next}
 use Rattle.occupants.proofs.Least.{sooner, sooner-of, least, least-append, least-map, least-All, filter-All}
 use Rattle.occupants.specs.View.{view_maybe_op, view_maybe_unit, MaybeOpOk, MaybeUnitOk, is_before}
 
@@ -241,26 +239,10 @@ units_count p us e g =
 
 -- ── On offer ────────────────────────────────────────────────────────────────
 
-pub offered-held : {us : Units} {i : ℕ} → UnitsOk us → (g : Legend) → (i < 64 → i < us.len)
-    → option_map unit_op (slice_get (view_units g us) i) ≡ option_map (λ (j : ℕ). (unit_at (view_units g us) j).op) (index_of i)
-unfolding index_of unit_at unit_op
-offered-held {us} {i} ok g h = ⊎_elim there past (lt-or-ge i 64)
-  where
-    size : length (view_units g us) ≡ us.len
-    size = ap length (units-map g us) ∙ length-map (slots us) (view_unit g) ∙ slots-length ok
-
-    there : i < 64 → option_map unit_op (slice_get (view_units g us) i) ≡ option_map (λ (j : ℕ). (unit_at (view_units g us) j).op) (index_of i)
-    there t =
-        let z = nth-get_or (view_units g us) (idle_unit 0 0) {i = i} (omega (arith, size, h t)) in
-        ap (option_map unit_op) z
-        ∙ sym
-        (ap (option_map (λ (j : ℕ). (unit_at (view_units g us) j).op)) (cond-lt (Some i) None t)
-        ∙ ap (λ (o : Option FunctionalUnit). Some (value_or (idle_unit 0 0) o).op) z)
-
-    past : 64 ≤ i → option_map unit_op (slice_get (view_units g us) i) ≡ option_map (λ (j : ℕ). (unit_at (view_units g us) j).op) (index_of i)
-    past t =
-        ap (option_map unit_op) (nth_end (view_units g us) {i = i} (omega (arith, size, ok.few)))
-        ∙ sym (ap (option_map (λ (j : ℕ). (unit_at (view_units g us) j).op)) (cond-ge (Some i) None t))
+-- The model's unit at a place.
+pub unit_read : {us : Units} (g : Legend) (d : Slot) {i : ℕ} → UnitsOk us → i < us.len → unit_at (view_units g us) i ≡ view_unit g (get_or us.items i d)
+unfolding unit_at
+unit_read g d ok h = value_or-some (idle_unit 0 0) (seen-nth (units-next ok g d h))
 
 -- ── What `get` gives of the units ───────────────────────────────────────────
 

@@ -8,20 +8,19 @@ use Rattle.model.specs.Op.{Op}
 use Rattle.model.specs.Units.{FunctionalUnit}
 use Rattle.model.specs.State.{no_stats, marks, offer_of, front_of, log_of, State, state}
 use Rattle.model.specs.Views.{SlotView}
-use Rattle.registers.specs.View.{claimed as index}
 use Rattle.flight.specs.View.{Legend, view_queued, QueuedOk}
 use Rattle.units.specs.View.{view_unit, UnitOk}
 use Rattle.occupants.specs.declared.PipelineSlotView.{PipelineSlotView}
 
--- An engine of this machine, these units and this queue, with unit `writing` on offer (64 for none). The views that take these parts read
+-- An engine of this machine, these units and this queue, with unit `writing` on offer. The views that take these parts read
 -- nothing else.
-abbrev pub with_offered : ℕ → Machine → List FunctionalUnit → List Op → State
+abbrev pub with_offered : Option ℕ → Machine → List FunctionalUnit → List Op → State
 with_offered writing m us q =
-    state m us q [] [] (marks false false) (offer_of (index writing) false) (front_of false false false false false 0 0 0)
+    state m us q [] [] (marks false false) (offer_of writing false) (front_of false false false false false 0 0 0)
     (log_of no_stats [] [] None)
 
 abbrev pub of_parts : Machine → List FunctionalUnit → List Op → State
-of_parts m us q = with_offered 64 m us q
+of_parts m us q = with_offered None m us q
 
 -- ── An operation, a unit ────────────────────────────────────────────────────
 

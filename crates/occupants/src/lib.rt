@@ -12,13 +12,12 @@ pub mod oldest;
 // The oldest operation in flight, and whether one is older than a number.
 pub mod in_flight;
 
-ghost use Rattle.std.specs.Prelude.{◌≡◌, List, ℕ, ◌<◌, option_map, slice_get};
+ghost use Rattle.std.specs.Prelude.{◌≡◌, List, ℕ, ◌<◌, IfSome, option_map, slice_get};
 ghost use Rattle.laws.specs.Optional.{when_some};
 ghost use Rattle.laws.specs.Means.{MeansFor};
 ghost use Rattle.laws.specs.Texts.{Text};
 ghost use Rattle.model.specs.Units.{unit_op, unit_at};
 ghost use Rattle.model.specs.Views.{slot_view, station_op};
-ghost use Rattle.registers.specs.View.{claimed as index_of};
 ghost use Rattle.flight.specs.declared.pool.TextPool.{TextPool};
 ghost use Rattle.flight.specs.View.{view_queued, view_queue, QueuedOk, QueueOk};
 ghost use Rattle.flight.specs.Pool.{legend, DecodedPoolOk};
@@ -127,12 +126,13 @@ pub fn shown_op(u: &Unit) -> Option<Queued>
     if u.busy { Some(op_of(u)) } else { None }
 }
 
-// The operation on offer, of the unit `writing`; 64 for none.
+// The operation on offer, of the unit `writing`.
 // model: Write.offered_op
-pub fn offered_op(units: &Units, writing: usize) -> Option<Queued>
+#[tactic(auto, using(crate::proofs::Seen::unit_read), unfolding(model::specs::Units::unit_op))]
+pub fn offered_op(units: &Units, writing: Option<usize>) -> Option<Queued>
     requires units_ok { UnitsOk units.now }
-    requires writing_lt_len { writing < 64 → writing < units.now.len }
-    ensures { MeansFor view_maybe_op MaybeOpOk result (λ g. option_map (λ (i : ℕ). (unit_at (view_units g units.now) i).op) (index_of writing)) }
+    requires writing_lt_len { IfSome writing (λ (i : ℕ). i < units.now.len) }
+    ensures { MeansFor view_maybe_op MaybeOpOk result (λ g. option_map (λ (i : ℕ). (unit_at (view_units g units.now) i).op) writing) }
 {
-    held(unit_at(units, writing))
+    writing.map(|at| op_of(&units.items[at]))
 }

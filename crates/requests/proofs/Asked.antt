@@ -23,7 +23,7 @@ use Rattle.requests.specs.declared.Place.TheVariants.{Kind}
 use Rattle.requests.specs.declared.Field.{Field}
 use Rattle.requests.specs.View.{view_place, view_field}
 
-module _ (writing : ℕ) (m : Machine) (us : Units) (q : Queue) (r : Option Queued) where
+module _ (writing : Option ℕ) (m : Machine) (us : Units) (q : Queue) (r : Option Queued) where
   -- r is the operation at a place.
   abbrev Shows : Place → Type 0
   Shows p = MeansFor view_maybe_op MaybeOpOk r (λ g. op_at (with_offered writing m (view_units g us) (view_queue g q)) (view_place p))

@@ -20,7 +20,18 @@ use Rattle.flight.specs.declared.pool.DecodedPool.{DecodedPool}
 use Rattle.flight.specs.declared.pool.TextPool.{TextPool}
 use Rattle.flight.specs.View.{carried_at}
 use Rattle.timeline.specs.declared.WaitForm.{WaitForm}
-use Rattle.timeline.specs.declared.WaitForm.TheVariants.{Overwrites, MemoryOrder, Drains, WaitsFor, WaitsForOlder, BehindBranch, BehindSystem, StillWrites, AllBusy, RedirectTo}
+use Rattle.timeline.specs.declared.WaitForm.TheVariants.{
+  Overwrites,
+  MemoryOrder,
+  Drains,
+  WaitsFor,
+  WaitsForOlder,
+  BehindBranch,
+  BehindSystem,
+  StillWrites,
+  AllBusy,
+  RedirectTo,
+}
 use Rattle.timeline.specs.Waits.{detail_of}
 use Rattle.timeline.specs.contracts.WaitForm as form
 use Rattle.stalls.specs.declared.Trace.{Trace}

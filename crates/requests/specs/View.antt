@@ -1,6 +1,19 @@
 -- What a text request asks for, and what stands behind the numbers of waits.
 use Rattle.std.specs.Prelude.{ℕ, [], take, None}
-use Rattle.model.specs.Requests.{Place as OpPlace, in_queue, in_station, in_stage, in_unit, on_offer, Field as OpField, disassembly, destination, fault, source, write}
+use Rattle.model.specs.Requests.{
+  Place as OpPlace,
+  in_queue,
+  in_station,
+  in_stage,
+  in_unit,
+  on_offer,
+  Field as OpField,
+  disassembly,
+  destination,
+  fault,
+  source,
+  write,
+}
 use Rattle.config.specs.declared.Machine.{Machine}
 use Rattle.config.specs.View.{view_machine}
 use Rattle.registers.specs.declared.RegisterTable.{RegisterTable}

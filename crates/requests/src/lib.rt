@@ -17,7 +17,7 @@ use timeline::WaitForm;
 // The label of a station, and the names of claimed registers and of operands.
 pub mod named;
 
-ghost use Rattle.std.specs.Prelude.{ℕ, ◌<◌, ◌≤◌, option_map, slice_get};
+ghost use Rattle.std.specs.Prelude.{ℕ, ◌<◌, ◌≤◌, IfSome, option_map, slice_get};
 ghost use Rattle.laws.specs.Optional.{when_some};
 ghost use Rattle.laws.specs.Lists.{All};
 ghost use Rattle.laws.specs.Means.{Means, MeansFor};
@@ -60,10 +60,10 @@ pub enum Field {
 }
 
 // model: Requests.op_at
-pub fn op_at(units: &Units, queue: &Queue, writing: usize, place: Place) -> Option<Queued>
+pub fn op_at(units: &Units, queue: &Queue, writing: Option<usize>, place: Place) -> Option<Queued>
     requires units_ok { UnitsOk units.now }
     requires queue_ok { QueueOk queue.now }
-    requires writing_lt_len { writing < 64 → writing < units.now.len }
+    requires writing_lt_len { IfSome writing (λ (i : ℕ). i < units.now.len) }
     ensures { (m : ModelMachine) → MeansFor view_maybe_op MaybeOpOk result (λ g. op_at (with_offered writing m (view_units g units.now) (view_queue g queue.now)) (view_place place)) }
 {
     match place {

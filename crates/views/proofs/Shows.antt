@@ -15,7 +15,22 @@ use Rattle.capability.specs.Numbers.{edge_number}
 use Rattle.capability.specs.Cases.{sequential_edge}
 use Rattle.model.specs.Timeline.{Row, cell_place, cell_at}
 use Rattle.model.specs.State.{State}
-use Rattle.model.specs.Views.{oldest_in, stage_ops, stage_op, stage_view, edges, entry_stages, stage_order, working, unit_view_of, unit_view, cell_view, cell_byte, cell_there, views}
+use Rattle.model.specs.Views.{
+  oldest_in,
+  stage_ops,
+  stage_op,
+  stage_view,
+  edges,
+  entry_stages,
+  stage_order,
+  working,
+  unit_view_of,
+  unit_view,
+  cell_view,
+  cell_byte,
+  cell_there,
+  views,
+}
 use Rattle.model.specs.Calls.{cell, Answer, refused, shown_cell, first_of, short_memory, checks, refusal, reply, answer}
 use Rattle.timeline.specs.declared.PipelineTimelineRow.{PipelineTimelineRow}
 use Rattle.timeline.specs.View.{shown, ShowsRow, view_rows}

@@ -10,7 +10,24 @@ use Rattle.model.specs.State.{State}
 use Rattle.model.specs.Op.{Op}
 use Rattle.model.specs.Write.{offered_op}
 use Rattle.model.specs.Views.{oldest_in, stage_ops, stage_op, working}
-use Rattle.model.specs.Requests.{Place, in_queue, in_station, in_stage, in_unit, on_offer, op_at, Field, field, Request, slot_text, stage_name, stage_names, text_at, short_for, buffer_with}
+use Rattle.model.specs.Requests.{
+  Place,
+  in_queue,
+  in_station,
+  in_stage,
+  in_unit,
+  on_offer,
+  op_at,
+  Field,
+  field,
+  Request,
+  slot_text,
+  stage_name,
+  stage_names,
+  text_at,
+  short_for,
+  buffer_with,
+}
 use Rattle.model.specs.Calls.{first_of, checks, refusal, buffer_after}
 use Rattle.flight.specs.View.{view_queue}
 use Rattle.traces.specs.Texts.{Written, written, Wrote}

@@ -4,7 +4,20 @@
 
 ghost use Rattle.std.specs.Prelude.{◌≡◌, length, slice_get};
 ghost use Rattle.model.specs.State.{State};
-ghost use Rattle.model.specs.Requests.{status_message, slot_text, trace_detail, row_disassembly, stage_name, unit_name, station_label, rename_register, cell_label, operand_register, stage_names, text_at};
+ghost use Rattle.model.specs.Requests.{
+  status_message,
+  slot_text,
+  trace_detail,
+  row_disassembly,
+  stage_name,
+  unit_name,
+  station_label,
+  rename_register,
+  cell_label,
+  operand_register,
+  stage_names,
+  text_at,
+};
 ghost use Rattle.model.specs.Calls.{buffer_after};
 ghost use Rattle.traces.specs.Texts.{written};
 ghost use Rattle.requests.specs.View.{view_place, view_field};

@@ -3,7 +3,7 @@ use Rattle.std.proofs.Common.{rules}
 use Rattle.std.proofs.lemmas.Iterator.{YieldsList-from_slice}
 use Rattle.std.proofs.lemmas.Iterator.Consumers.{YieldsList-from_filter}
 use Rattle.bank.specs.View.{slots}
-use Rattle.occupants.proofs.Least.{least, least_from}
+use Rattle.occupants.proofs.Least.{least_from}
 use Rattle.occupants.proofs.Seen.{busy_ok, flight_busy, flight_queued}
 use Rattle.occupants.proofs.in_flight.oldest_in_flight.Goals as goal
 
