@@ -2,17 +2,14 @@
 use mathlib.Core.Path.{◌≡◌, refl, sym, subst, ap, ◌∙◌}
 use mathlib.Core.Bool.{false, cond, ◌||◌}
 use Rattle.std.specs.Prelude.{Option, None, Some}
-use mathlib.Core.List.{List}
-use Prim.Native.Nat.{ℕ, ◌≤◌}
+use Prim.Native.Nat.{ℕ}
 use native.Mathlib.Omega.{arith}
 use lib.Dec.{eqb, T}
 use lib.ListN.{length}
 use Rattle.laws.proofs.Choices.{false-T}
 use Rattle.laws.specs.Lists.{All, count}
-use Rattle.laws.specs.Optional.{when_some}
-use Rattle.laws.proofs.Tests.{cond-eq, cond-ne}
+use Rattle.laws.proofs.Tests.{cond-ne}
 use Rattle.model.specs.State.{Front, State}
-use Rattle.model.specs.Calls.{Call, done, refused, refusal, run, reply, answer, after}
 use Rattle.stalls.specs.View.{listed}
 use Rattle.stalls.specs.Promises.{NoRedirect}
 use Rattle.stalls.proofs.Logged.{listed-length}
@@ -20,16 +17,10 @@ use Rattle.bank.specs.View.{places}
 use Rattle.board.specs.declared.Board.{Board}
 use Rattle.board.specs.View.{view_board, BoardOk}
 use Rattle.board.specs.Promises.{taken_places, Names, Open, Still, Starts}
-use Rattle.registers.specs.View.{claimed}
-use Rattle.board.proofs.Vacancy.{unclaimed}
 use Rattle.board.proofs.Counting.{names_more, taken-count, apart-kept, same_taken, same-apart}
-use Rattle.checks.specs.Numbered.{numbered}
 use Rattle.engine.specs.Engine.{Engine, with_board}
-use Rattle.engine.specs.declared.Answer.{Answer}
 use Rattle.engine.specs.View.{frame_of, view_engine}
 use Rattle.engine.specs.Valid.{Parts, Valid}
-use Rattle.engine.specs.Calls.{Does, Tells}
-use Rattle.engine.proofs.Does.{does-taken}
 
 pub same-open : {b r : Board} → BoardOk b → BoardOk r → Still b r → Open b → Open r
 same-open {b} {r} ok k s o =
@@ -74,7 +65,7 @@ still-parts e r p k s same =
 
 -- A cycle has opened.
 pub started-parts
-    : {f : State → State} (e : Engine) (r : Board) → Parts e → 64 ≤ e.board.offer.writing → Starts e.board r f
+    : {f : State → State} (e : Engine) (r : Board) → Parts e → e.board.offer.writing ≡ None → Starts e.board r f
     → Parts (with_board r e)
 started-parts e r p free s =
     record {
@@ -109,37 +100,10 @@ started-parts e r p free s =
     }
 
 -- Outside a cycle nothing is on offer.
-pub no_offer-outside : {e : Engine} → Valid e → e.board.front.in_cycle ≡ false → 64 ≤ e.board.offer.writing
+pub no_offer-outside : {e : Engine} → Valid e → e.board.front.in_cycle ≡ false → e.board.offer.writing ≡ None
 unfolding view_engine view_board
-no_offer-outside {e} v h = unclaimed (go (claimed e.board.offer.writing) refl)
+no_offer-outside {e} v h = go e.board.offer.writing refl
   where
-    go : (o : Option ℕ) → claimed e.board.offer.writing ≡ o → claimed e.board.offer.writing ≡ None
+    go : (o : Option ℕ) → e.board.offer.writing ≡ o → e.board.offer.writing ≡ None
     go None q = q
     go (Some i) q = false-T e.board.front.in_cycle h (subst T (sym (v.invariant.offer_unit i q).0) tt)
-
--- ── A call that answers done or a refusal ───────────────────────────────────
-
-module _ {e : Engine} {c : Call} (v : Valid e) {no : ℕ} {a : Answer} {f : Engine}
-    (n : numbered no ≡ refusal (view_engine e) c) (d : Tells no a) where
-  pub settled-done
-      : (r : Engine) → no ≡ 0 → f ≡ r → ((m : List ℕ) → reply (view_engine e) m c ≡ done) → view_engine r ≡ run (view_engine e) c
-      → Parts r → Does e c (record { engine = f; answer = a })
-  unfolding numbered
-  settled-done r z q y t p =
-      let k : numbered no ≡ None = cond-eq None (Some no) z in
-      subst (λ (x : Engine). Does e c (record { engine = x; answer = a })) (sym q)
-      (does-taken v (sym n ∙ k) (λ m. d ∙ ap (λ (o : Option ℕ). when_some o done refused) k ∙ sym (y m)) t p)
-
-  pub settled-refused : (no ≡ 0 → ⊥) → f ≡ e → Does e c (record { engine = f; answer = a })
-  unfolding numbered answer after
-  settled-refused z q =
-      let k : numbered no ≡ Some no = cond-ne None (Some no) z in
-      let h : refusal (view_engine e) c ≡ Some no = sym n ∙ k in
-      record {
-        answer =
-            λ m. d ∙ ap (λ (o : Option ℕ). when_some o done refused) k
-            ∙ sym (ap (λ (o : Option ℕ). when_some o (reply (view_engine e) m c) refused) h);
-        engine = ap view_engine q ∙ sym (ap (λ (o : Option ℕ). when_some o (run (view_engine e) c) (λ (k : ℕ). view_engine e)) h);
-        valid = subst Valid (sym q) v;
-        refused = λ k w. q;
-      }

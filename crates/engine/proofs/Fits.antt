@@ -1,7 +1,7 @@
 -- A text that is not bad fits its array.
 use Rattle.op.specs.declared.chars.Chars.{Chars}
 use Prim.Native.Nat.{ℕ, ◌≤◌}
-use mathlib.Core.Path.{◌≡◌, sym, subst, ap}
+use mathlib.Core.Path.{◌≡◌, sym, subst}
 use mathlib.Core.Bool.{Bool, false, ◌||◌}
 use mathlib.Core.Logic.{⊎_elim}
 use Rattle.std.specs.Prelude.{Option, None, Some, option_map}

@@ -4,4 +4,3 @@ pub mod Legends
 pub mod Naming
 pub mod Dropping
 pub mod Boards
-pub mod Spreading

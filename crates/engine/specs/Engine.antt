@@ -1,6 +1,5 @@
 -- The parts of an engine: the fields of `ScoreboardPipeline` in crates/scoreboard. Functions that work on some of them say what they do to every
 -- engine that has these.
-use Rattle.std.specs.Prelude.{ℕ}
 use Rattle.config.specs.declared.Machine.{Machine}
 use Rattle.registers.specs.declared.RegisterTable.{RegisterTable}
 use Rattle.flight.specs.declared.pool.DecodedPool.{DecodedPool}
@@ -9,7 +8,6 @@ use Rattle.timeline.specs.declared.Tracks.{Tracks}
 use Rattle.timeline.specs.declared.RowTexts.{RowTexts}
 use Rattle.timeline.specs.declared.Window.{Window}
 use Rattle.board.specs.declared.Board.{Board}
-use Rattle.engine.specs.declared.Answer.{Answer}
 
 pub record Engine : Type 0 where
   pub board : Board
@@ -20,14 +18,6 @@ pub record Engine : Type 0 where
   pub table : RegisterTable
   pub texts : TextPool
   pub rows : RowTexts
-
--- What a call hands back.
-pub record Next : Type 0 where
-  pub engine : Engine
-  pub answer : Answer
-
-abbrev pub window_of : ℕ → ℕ → ℕ → Window
-window_of next rows history = record { next = next; held = rows; history = history }
 
 -- The engine with this board, else as it is.
 abbrev pub with_board : Board → Engine → Engine

@@ -1,4 +1,4 @@
--- The only premise of a call: what holds of every engine that making and calls hand back.
+-- The only premise of a call: what holds of every engine that making hands out and calls leave.
 use Rattle.std.specs.Prelude.{◌≡◌, true, false, ◌||◌}
 use Rattle.invariant.specs.Invariant.{Invariant}
 use Rattle.config.specs.Kept.{MachineOk}

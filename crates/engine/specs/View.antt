@@ -1,5 +1,7 @@
 -- What the engine means to the model, and what its answers are.
-use Rattle.std.specs.Prelude.{None, Some}
+use Rattle.std.specs.Prelude.{ℕ, Option, option_map, Result, Ok, Err}
+use Rattle.capability.specs.declared.Refusal.{Refusal}
+use Rattle.capability.specs.Refusals.{refusal_number}
 use Rattle.model.specs.State.{State}
 use Rattle.model.specs.Views.{OfferView as ModelOffer}
 use Rattle.model.specs.Calls.{Answer as ModelAnswer, refused, done, offered, resolved, invitation}
@@ -11,8 +13,6 @@ use Rattle.flight.specs.Pool.{legend}
 use Rattle.board.specs.View.{Frame, view_board}
 use Rattle.engine.specs.Engine.{Engine}
 use Rattle.engine.specs.declared.OfferView.{OfferView}
-use Rattle.engine.specs.declared.Answer.{Answer}
-use Rattle.engine.specs.declared.Answer.TheVariants as a
 
 -- What the board's numbers stand for: the pool by place, the names held by register.
 abbrev pub legend_of : Engine → Legend
@@ -43,17 +43,28 @@ view_offer v =
       payload = v.payload;
     }
 
-unfoldable pub view_answer : Answer → ModelAnswer
-view_answer (a.Refused n) = refused n
-view_answer a.Done = done
-view_answer (a.Offered v) = offered (Some (view_offer v))
-view_answer a.NoOffer = offered None
-view_answer (a.Resolved t) = resolved (Some t)
-view_answer a.NotResolved = resolved None
-view_answer (a.Invitation t) = invitation (Some t)
-view_answer a.NoInvitation = invitation None
+-- ── What calls answer ───────────────────────────────────────────────────────
+
+-- What was asked for, or a refusal by its number.
+unfoldable pub answer_by : {A : Type 0} → (A → ModelAnswer) → Result A Refusal → ModelAnswer
+answer_by f (Ok a) = f a
+answer_by f (Err r) = refused (refusal_number r)
+
+abbrev pub done_answer : {A : Type 0} → Result A Refusal → ModelAnswer
+done_answer r = answer_by (λ a. done) r
+
+abbrev pub offer_answer : Result (Option OfferView) Refusal → ModelAnswer
+offer_answer r = answer_by (λ (o : Option OfferView). offered (option_map view_offer o)) r
+
+-- Where to redirect to.
+abbrev pub target_answer : Result (Option ℕ) Refusal → ModelAnswer
+target_answer r = answer_by resolved r
+
+-- The address to fetch from.
+abbrev pub invitation_answer : Result (Option ℕ) Refusal → ModelAnswer
+invitation_answer r = answer_by invitation r
 
 -- All of these unfold where a line says `unfolding shown`.
 unfoldable pub shown : Unit {0}
-unfolding view_engine view_offer view_answer
+unfolding view_engine view_offer answer_by
 shown = tt
