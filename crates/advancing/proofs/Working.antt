@@ -1,29 +1,41 @@
 -- A cycle that is neither halted nor faulted: its steps, one after the other, are the model's, and the parts are well formed again.
 use Prim.Native.Nat.{ℕ, ◌≤◌}
 use mathlib.Core.Path.{◌≡◌, refl, sym, subst, ap, ap₂, ◌∙◌}
-use mathlib.Core.Bool.{false}
+use mathlib.Core.Bool.{true, false, ◌||◌}
 use Rattle.std.specs.Prelude.{Option, None, Some}
 use mathlib.Core.List.{List, [], ◌++◌, map}
 use native.Mathlib.Omega.{arith}
 use lib.Dec.{T}
 use lib.ListN.{length, take}
 use Rattle.laws.specs.Lists.{All, keep}
-use Rattle.laws.specs.Optional.{when_some}
 use Rattle.laws.proofs.Choices.{false-T}
 use Rattle.model.specs.Units.{is_busy}
 use Rattle.model.specs.Timeline.{Row, push_all_writes, write_all}
 use Rattle.model.specs.State.{Front, State}
-use Rattle.model.specs.Issue.{redirected, tick_execute, start_ready, read_operands, issue, queue_cell, unit_cell, timeline_cells, record_timeline, redirect_writes, timeline_writes}
+use Rattle.model.specs.Issue.{
+  redirected,
+  tick_execute,
+  start_ready,
+  read_operands,
+  issue,
+  queue_cell,
+  unit_cell,
+  timeline_cells,
+  record_timeline,
+  redirect_writes,
+  timeline_writes,
+}
 use Rattle.model.specs.Scoreboard.{closed, clear_status, before_issue, invite, after_issue}
 use Rattle.model.specs.Calls.{invitation, invitation_of}
 use Rattle.invariant.proofs.Advance.{flags-issued}
+use Rattle.config.specs.declared.Machine.{Machine}
 use Rattle.config.specs.View.{view_machine}
 use Rattle.rows.proofs.Bytes.{write_all-append}
 use Rattle.registers.specs.declared.RegisterTable.{RegisterTable}
 use Rattle.registers.specs.View.{view_known, view_held, TableOk}
 use Rattle.registers.proofs.NameTable.{held-length, known-length, known-held, lowered}
-use Rattle.timeline.specs.declared.RowTexts.{RowTexts}
 use Rattle.timeline.specs.declared.Tracks.{Tracks}
+use Rattle.timeline.specs.declared.Window.{Window}
 use Rattle.timeline.specs.View.{view_rows}
 use Rattle.flight.specs.View.{Legend, nothing_carried, view_queue}
 use Rattle.stalls.specs.View.{listed, view_log}
@@ -31,33 +43,40 @@ use Rattle.stalls.specs.Promises.{NoRedirect}
 use Rattle.stalls.proofs.Logged.{listed-length}
 use Rattle.bank.specs.View.{view_units}
 use Rattle.recording.specs.Recorded.{Recorded, Written}
+use Rattle.board.specs.declared.Offer.{Offer}
 use Rattle.board.specs.declared.Board.{Board}
-use Rattle.board.specs.View.{Frame, known_names, view_board, BoardOk}
+use Rattle.board.specs.View.{Frame, known_names, view_board}
 use Rattle.board.specs.Promises.{taken_places, Names, Named, Vacant, Open, unit_places, Looks, Closes, with_frame_rows, Redirects, Works, Invites}
 use Rattle.issuing.specs.Issues.{Issues}
 use Rattle.engine.specs.Engine.{Engine}
-use Rattle.engine.specs.declared.Answer.{Answer}
-use Rattle.engine.specs.View.{frame_of, view_engine, view_answer}
+use Rattle.engine.specs.View.{frame_of, view_engine}
 use Rattle.engine.specs.Valid.{Parts, Valid}
-use Rattle.advancing.specs.Advance.{dropped_cells, issued, Worked, worked_writes}
+use Rattle.advancing.specs.Advance.{dropped_cells, held_after, issued, engine_of, Restable, Worked, worked_writes}
 use Rattle.board.proofs.Counting.{same_taken, same-apart}
 use Rattle.engine.proofs.Dropping.{with_names, dropped-names, empty-looks}
 use Rattle.advancing.proofs.Recorded.{recorded-both, written_both, redirected-rows, redirected-writes, recorded-board}
-use Rattle.advancing.proofs.Advancing.{closed-front}
+use Rattle.advancing.proofs.Advancing.{closed-front, stops_same}
 
 -- ── What the steps need ─────────────────────────────────────────────────────
 
-module _ {b r : Board} (ok : BoardOk b) (o : Open b) (cl : Closes b r) where
+-- With any legend and any rows.
+abbrev pub any-legend : Legend
+any-legend = record { carried = λ p. nothing_carried; names = [] }
+
+module _ {b r : Board} {w : Window} {ts : Tracks} {m : Machine} (p : Restable b w ts m) (h : b.front.in_cycle ≡ true) (cl : Closes b r)
+    (n : r.front.halted || r.front.faulted ≡ false) where
+  pub opened : Open b
+  opened =
+      p.begun h
+      (stops_same cl (record { legend = any-legend; machine = view_machine m; rows = []; next = 0 }) ∙ n)
+
   pub few-waits : r.log.traces.len ≤ 64
-  few-waits = omega (arith, listed-length cl.ok.log, ap length cl.waits, listed-length ok.log, o.few)
+  few-waits = omega (arith, listed-length cl.ok.log, ap length cl.waits, listed-length p.board.log, opened.few)
 
   pub no-redirect : All NoRedirect (listed r.log.traces)
-  no-redirect = subst (All NoRedirect) (sym cl.waits) o.none
+  no-redirect = subst (All NoRedirect) (sym cl.waits) opened.none
 
 -- ── The names held ──────────────────────────────────────────────────────────
-
-abbrev pub table-with : RegisterTable → ℕ → ℕ → RegisterTable
-table-with t known held = record { names = t.names; known = known; held = held }
 
 -- The rows do not matter.
 pub looks-rows : (rs : List Row) (x : Frame) (b : Board) → Looks x b → Looks (with_frame_rows rs x) b
@@ -65,26 +84,26 @@ unfolding known_names
 looks-rows rs x b l = record { most = l.most; queued = l.queued }
 
 -- The names held after a redirect, if there was one.
-pub record Holding (x : Frame) (t : RegisterTable) (held : ℕ) (b : Board) : Type 0 where
-  pub table : TableOk (table-with t t.known held)
-  pub is : view_board (with_names (view_held (table-with t t.known held)) x) b ≡ view_board x b
-  pub looks : Looks (with_names (view_held (table-with t t.known held)) x) b
+pub record Holding (x : Frame) (t : RegisterTable) (b : Board) : Type 0 where
+  pub table : TableOk t
+  pub is : view_board (with_names (view_held t) x) b ≡ view_board x b
+  pub looks : Looks (with_names (view_held t) x) b
 
 module _ (x : Frame) {t : RegisterTable} (ok : TableOk t) {b r : Board} where
   -- The frame's names are the table's, of which those of the claims are known.
   pub holding
       : (o : Option ℕ) → x.legend.names ≡ view_held t → t.known ≡ b.claims.len → Looks x b → Redirects b r o
-      → {held : ℕ} → held ≡ when_some o t.held (λ (n : ℕ). t.known) → Holding x t held r
+      → {h : RegisterTable} → h ≡ held_after o t → Holding x h r
   unfolding view_held view_known
-  holding None n k l s h =
-      subst (λ (m : ℕ). Holding x t m r) (sym h)
+  holding None n k l s q =
+      subst (λ (h : RegisterTable). Holding x h r) (sym q)
       (record {
         table = ok;
         is = ap (λ ns. view_board (with_names ns x) r) (sym n);
         looks = subst (λ ns. Looks (with_names ns x) r) n (s.stays refl x l);
       })
-  holding (Some a) n k l s h =
-      subst (λ (m : ℕ). Holding x t m r) (sym h)
+  holding (Some a) n k l s q =
+      subst (λ (h : RegisterTable). Holding x h r) (sym q)
       (record {
         table = (lowered ok).ok;
         is =
@@ -95,18 +114,11 @@ module _ (x : Frame) {t : RegisterTable} (ok : TableOk t) {b r : Board} where
 
 -- ── The steps ───────────────────────────────────────────────────────────────
 
-abbrev pub worked-engine : Engine → Board → Tracks → ℕ → Engine
-worked-engine e b ts held =
-    record {
-      board = b;
-      window = e.window;
-      tracks = ts;
-      decoded = e.decoded;
-      machine = e.machine;
-      table = table-with e.table b.claims.len held;
-      texts = e.texts;
-      rows = e.rows;
-    }
+abbrev pub with_known : ℕ → RegisterTable → RegisterTable
+with_known n t = record { names = t.names; hints = t.hints; known = n; held = t.held }
+
+abbrev pub worked-engine : Engine → Board → Tracks → RegisterTable → Engine
+worked-engine e b ts t = engine_of b e.window ts e.machine (with_known b.claims.len t) e
 
 -- Cells of the queue, and of busy units.
 abbrev pub queue-cells : Legend → Board → List (ℕ × ℕ)
@@ -120,12 +132,12 @@ module _ {e : Engine} (v : Valid e) (o : Open e.board) {b b1 b2 b3 b4 : Board} {
     (s4 : Invites b3 e.machine.depth b4) {ts1 ts2 ts3 : Tracks}
     (p1 : (g : Legend) → Recorded e.window (dropped_cells target (view_queue g b.queue)) e.tracks ts1)
     (p2 : (g : Legend) → Recorded e.window (queue-cells g b4) ts1 ts2) (p3 : (g : Legend) → Recorded e.window (unit_cells g b4) ts2 ts3)
-    {held : ℕ} (hd : held ≡ when_some target e.table.held (λ (n : ℕ). e.table.known)) where
+    {t1 : RegisterTable} (hd : t1 ≡ held_after target e.table) where
   abbrev s : State
   s = view_engine e
 
   abbrev r : Engine
-  r = worked-engine e b4 ts3 held
+  r = worked-engine e b4 ts3 t1
 
   -- Frames: before, with the rows after the redirect, and with the names held then.
   abbrev x0 : Frame
@@ -135,7 +147,7 @@ module _ {e : Engine} (v : Valid e) (o : Open e.board) {b b1 b2 b3 b4 : Board} {
   x1 = with_frame_rows (view_rows e.window ts1 e.rows) x0
 
   abbrev x2 : Frame
-  x2 = with_names (view_held (table-with e.table e.table.known held)) x1
+  x2 = with_names (view_held t1) x1
 
   closed_is : view_board x0 b ≡ closed s
   unfolding view_engine
@@ -146,7 +158,7 @@ module _ {e : Engine} (v : Valid e) (o : Open e.board) {b b1 b2 b3 b4 : Board} {
       ap (λ (rs : List Row). view_board (with_frame_rows rs x0) b1) ((p1 x0.legend).is e.rows ∙ sym (redirected-rows x0 b target))
       ∙ s1.is x0 ∙ ap (λ (t : State). redirected target (clear_status t)) closed_is
 
-  names : Holding x1 e.table held b1
+  names : Holding x1 t1 b1
   names =
       holding x1 v.parts.table target refl (v.parts.known ∙ sym cl.known)
       (looks-rows (view_rows e.window ts1 e.rows) x0 b (cl.looks x0 v.parts.looks)) s1 hd
@@ -184,8 +196,8 @@ module _ {e : Engine} (v : Valid e) (o : Open e.board) {b b1 b2 b3 b4 : Board} {
   places-named : Named (unit_places b2) b2
   places-named = s2.step.named (s1.step.named (cl.named o))
 
-  none-offered : 64 ≤ b2.offer.writing
-  none-offered = subst (λ o. 64 ≤ o.writing) (sym (s2.offer ∙ s1.offer)) cl.offer
+  none-offered : b2.offer.writing ≡ None
+  none-offered = ap (λ (n : Offer). n.writing) (s2.offer ∙ s1.offer) ∙ cl.offer
 
   all-vacant : Vacant b2
   all-vacant = s2.vacant (s1.vacant (cl.vacant v.parts.vacant))
@@ -201,7 +213,7 @@ module _ {e : Engine} (v : Valid e) (o : Open e.board) {b b1 b2 b3 b4 : Board} {
       let x = frame_of r in
       s4.still.looks x (s3.looks x (s2.looks x (looks-rows (view_rows e.window ts3 e.rows) x2 b1 names.looks)))
 
-  known-few : b4.claims.len ≤ held
+  known-few : b4.claims.len ≤ t1.held
   unfolding view_held
   known-few = omega (arith, looks-after.most, held-length names.table)
 
@@ -223,8 +235,9 @@ module _ {e : Engine} (v : Valid e) (o : Open e.board) {b b1 b2 b3 b4 : Board} {
             record {
               known = known-few;
               held = names.table.held;
-              size = v.parts.table.size;
-              each = v.parts.table.each;
+              size = names.table.size;
+              hints = names.table.hints;
+              each = names.table.each;
               distinct = names.table.distinct;
             };
         decoded = v.parts.decoded;
@@ -240,12 +253,11 @@ module _ {e : Engine} (v : Valid e) (o : Open e.board) {b b1 b2 b3 b4 : Board} {
         named = λ t. waits-named;
       }
 
-  pub working : {a : Answer} → ((x : Frame) → view_answer a ≡ invitation (invitation_of (view_board x b4)))
-      → Worked e target (record { engine = r; answer = a })
+  pub working : {a : Option ℕ} → ((x : Frame) → a ≡ invitation_of (view_board x b4)) → Worked e target (invitation a) r
   unfolding view_engine
   working f =
       record {
-        answer = f (frame_of r) ∙ ap (λ (t : State). invitation (invitation_of t)) engine-is;
+        answer = ap invitation (f (frame_of r)) ∙ ap (λ (t : State). invitation (invitation_of t)) engine-is;
         engine = engine-is;
         parts = parts_are;
       }
@@ -274,12 +286,3 @@ module _ {e : Engine} (v : Valid e) (o : Open e.board) {b b1 b2 b3 b4 : Board} {
       working-memory =
           last-bytes ∙ ap (write_all (timeline_writes (issued target s))) first-bytes
           ∙ sym (write_all-append (redirect_writes target (closed s)) (timeline_writes (issued target s)) m)
-
--- ── Whatever stands behind the numbers ──────────────────────────────────────
-
--- Lengths are the same with any legend and any rows.
-abbrev pub any-legend : Legend
-any-legend = record { carried = λ p. nothing_carried; names = [] }
-
-abbrev pub any-rows : RowTexts
-any-rows = record { items = [] }

@@ -38,17 +38,12 @@ use Rattle.registers.proofs.NameTable.{held-length, known-length, known-held}
 use Rattle.registers.proofs.Queue.{fetch-queued}
 use Rattle.flight.specs.declared.Queued.{Queued}
 use Rattle.flight.specs.declared.Queue.{Queue}
-use Rattle.flight.specs.declared.pool.Decoded.{Decoded}
-use Rattle.flight.specs.declared.pool.Texts.{Texts}
 use Rattle.flight.specs.View.{Carried, Legend, nothing_carried, carried_at, view_carried, named, op_with, view_queued, view_queue, entries}
 use Rattle.flight.specs.Pool.{decoded_of, texts_of, no_decoded, no_texts, held_at, TextsOk}
 use Rattle.flight.specs.Promises.{Queues}
 use Rattle.flight.proofs.Entries.{queue-length}
 use Rattle.timeline.specs.declared.Tracks.{Tracks}
-use Rattle.timeline.specs.declared.RowText.{RowText}
-use Rattle.timeline.specs.declared.RowTexts.{RowTexts}
-use Rattle.timeline.specs.declared.Window.{Window}
-use Rattle.timeline.specs.View.{row_at, first_track, view_rows, WindowOk, TracksOk, RowTextOk, RowTextsOk, all_tracks, all_texts, the_window, opened}
+use Rattle.timeline.specs.View.{row_at, first_track, view_rows, TracksOk, RowTextOk, RowTextsOk, all_tracks, opened}
 use Rattle.timeline.proofs.Steps.{rows-opened}
 use Rattle.stalls.specs.declared.Trace.{Trace}
 use Rattle.stalls.specs.View.{word_at, number_word, listed, view_traces, view_stats, view_log}
@@ -64,6 +59,7 @@ use Rattle.engine.specs.Engine.{Engine}
 use Rattle.engine.specs.View.{legend_of, frame_of, view_engine}
 use Rattle.engine.specs.Valid.{Parts, Valid}
 use Rattle.fetching.specs.Fetching.{Queueing, row_text, Fetchable, Accepts}
+use Rattle.fetching.specs.Taking.{admitted_engine}
 use Rattle.engine.proofs.Fits.{good-texts}
 use Rattle.engine.proofs.Legends.{UnitAgrees, EntryAgrees, units-agree, queue-agrees, WaitAgrees, waits-agree}
 use Rattle.engine.proofs.Naming.{names-stay, resolve-begins, reads-named, writes-named, Below, below_all, queue-below}
@@ -165,35 +161,19 @@ next-board b pc k =
       status = b.status;
     }
 
-abbrev pub next-engine : Engine → RegisterTable → ℕ → ℕ → Queue → Decoded → Texts → Tracks → RowTexts → Window → Engine
-next-engine e u p pc k d t ts xs w =
-    record {
-      board = next-board e.board pc k;
-      window = w;
-      tracks = ts;
-      decoded = record { items = set e.decoded.items p d };
-      machine = e.machine;
-      table = u;
-      texts = record { items = set e.texts.items p t };
-      rows = xs;
-    }
-
-module _ {e : Engine} (v : Valid e) {o : PipelineOp} {lent : ℕ} (f : Fetchable e o lent)
+module _ {e : Engine} (v : Valid e) {o : PipelineOp} {lent : ℕ} (f : Fetchable e o lent) (row : RowTextOk (row_text o))
     {names : RegisterTable} {x : Operands} (z : ResolvedTo e.table (view_op o).info names (Some x))
-    {p pc cycles : ℕ} {q : Queued} {k : Queue} {d : Decoded} {t : Texts} {ts : Tracks} {y : RowText} {xs : RowTexts} {w : Window}
+    {p pc cycles : ℕ} {q : Queued} {k : Queue} {ts : Tracks}
     (free : Free (taken_places e.board) p)
     (next : pc ≡ sequential_address e.machine.instruction_bytes (view_op o).decoded)
     (slow : cycles ≡ latency (view_machine e.machine).times o.class)
     (entry : Queueing x o e.window.next cycles p q)
     (queue : Queues k (entries e.board.queue ++ q ∷ []) (λ g. view_queue g e.board.queue ++ view_queued g q ∷ []))
-    (decoded : d ≡ decoded_of o pc)
-    (texts : t ≡ texts_of o)
-    (tracks : Means all_tracks TracksOk ts (set e.tracks.items (e.window.next % e.window.history) (first_track e.board.log.stats.cycles)))
-    (text : Means (λ (r : RowText). r) RowTextOk y (row_text o))
-    (rows : Means all_texts RowTextsOk xs (set e.rows.items (e.window.next % e.window.history) y))
-    (window : Means the_window WindowOk w (opened e.window)) where
+    (tracks : Means all_tracks TracksOk ts (set e.tracks.items (e.window.next % e.window.history) (first_track e.board.log.stats.cycles))) where
   abbrev r : Engine
-  r = next-engine e names p pc k d t ts xs w
+  r =
+      admitted_engine (next-board e.board pc k) (opened e.window) ts e.machine names p (decoded_of o pc) (texts_of o)
+      (e.window.next % e.window.history) (row_text o) e
 
   abbrev g : Legend
   g = legend_of e
@@ -219,15 +199,15 @@ module _ {e : Engine} (v : Valid e) {o : PipelineOp} {lent : ℕ} (f : Fetchable
   other : (m : ℕ) → (m ≡ p → ⊥) → carried_at h m ≡ carried_at g m
   unfolding carried_at held_at
   other m n =
-      ap₂ (λ c s. cond (ltb m 80) (view_carried c s) nothing_carried) (get_or-set_other e.decoded.items p m d no_decoded n)
-      (get_or-set_other e.texts.items p m t no_texts n)
+      ap₂ (λ c s. cond (ltb m 80) (view_carried c s) nothing_carried) (get_or-set_other e.decoded.items p m (decoded_of o pc) no_decoded n)
+      (get_or-set_other e.texts.items p m (texts_of o) no_texts n)
 
   here : carried_at h p ≡ view_carried (decoded_of o pc) (texts_of o)
   unfolding carried_at held_at
   here =
       cond-lt _ _ free.there
-      ∙ ap₂ view_carried (get_or-set_same e.decoded.items p d no_decoded (omega (arith, free.there, v.parts.decoded.size)) ∙ decoded)
-      (get_or-set_same e.texts.items p t no_texts (omega (arith, free.there, v.parts.texts.size)) ∙ texts)
+      ∙ ap₂ view_carried (get_or-set_same e.decoded.items p (decoded_of o pc) no_decoded (omega (arith, free.there, v.parts.decoded.size)))
+      (get_or-set_same e.texts.items p (texts_of o) no_texts (omega (arith, free.there, v.parts.texts.size)))
 
   few-known : b.claims.len ≤ length (view_held e.table)
   few-known = v.parts.looks.most
@@ -331,18 +311,27 @@ module _ {e : Engine} (v : Valid e) {o : PipelineOp} {lent : ℕ} (f : Fetchable
   queue-is : view_queue h k ≡ view_queue g b.queue ++ fetched_op (view_op o) (view_engine e) ∷ []
   queue-is = queue.is h ∙ ap₂ (λ l a. l ++ a ∷ []) queue-stays new-op
 
-  rows_are : view_rows w ts xs
+  rows_ok : RowTextsOk r.rows
+  rows_ok =
+      record {
+        size = length-set e.rows.items (e.window.next % e.window.history) (row_text o) ∙ v.parts.rows.size;
+        each =
+            All-set RowTextOk e.rows.items (e.window.next % e.window.history) (row_text o) v.parts.rows.each
+            row;
+      }
+
+  rows_are : view_rows (opened e.window) ts r.rows
       ≡ open_row e.machine.history
       (row_of e.window.next o.address (view_text o.disassembly) o.class e.board.log.stats.cycles o.atomic 0 1)
       (view_rows e.window e.tracks e.rows)
   rows_are =
-      ap (λ u. view_rows u ts xs) window.is
-      ∙ rows-opened v.parts.window e.tracks v.parts.tracks e.rows v.parts.rows e.board.log.stats.cycles y tracks rows
-      ∙ ap₂ (λ n a. open_row n (row_at e.window.next (first_track e.board.log.stats.cycles) a) (view_rows e.window e.tracks e.rows))
-      v.parts.history text.is
+      rows-opened v.parts.window e.tracks v.parts.tracks e.rows v.parts.rows e.board.log.stats.cycles (row_text o) tracks
+      (record { is = refl; ok = rows_ok })
+      ∙ ap (λ n. open_row n (row_at e.window.next (first_track e.board.log.stats.cycles) (row_text o)) (view_rows e.window e.tracks e.rows))
+      v.parts.history
 
-  number : w.next ≡ min (e.window.next + 1) max64
-  number = ap (λ (u : Window). u.next) window.is ∙ omega (arith, f.next)
+  number : e.window.next + 1 ≡ min (e.window.next + 1) max64
+  number = omega (arith, f.next)
 
   engine-is : view_engine r ≡ fetched (view_op o) (view_engine e)
   unfolding view_engine view_board fetched next_address view_log view_stats view_machine view_op
@@ -422,18 +411,19 @@ module _ {e : Engine} (v : Valid e) {o : PipelineOp} {lent : ℕ} (f : Fetchable
               knows = v.parts.board.knows;
               known = v.parts.board.known;
             };
-        window = window.ok;
+        window =
+            let k = v.parts.window in record { few = omega arith; past = omega (arith, k.past); least = k.least; most = k.most };
         tracks = tracks.ok;
-        rows = rows.ok;
+        rows = rows_ok;
         machine = v.parts.machine;
         table = z.ok;
-        decoded = record { size = length-set e.decoded.items p d ∙ v.parts.decoded.size };
+        decoded = record { size = length-set e.decoded.items p (decoded_of o pc) ∙ v.parts.decoded.size };
         texts =
             record {
-              size = length-set e.texts.items p t ∙ v.parts.texts.size;
-              each = All-set TextsOk e.texts.items p t v.parts.texts.each (subst TextsOk (sym texts) (good-texts o f.good));
+              size = length-set e.texts.items p (texts_of o) ∙ v.parts.texts.size;
+              each = All-set TextsOk e.texts.items p (texts_of o) v.parts.texts.each (good-texts o f.good);
             };
-        history = ap (λ (u : Window). u.history) window.is ∙ v.parts.history;
+        history = v.parts.history;
         known = known-count;
         looks = looks-still;
         apart = apart-still;

@@ -1,6 +1,4 @@
 pub mod Accepting
 pub mod Fetches
+pub mod Naming
 pub mod Taking
-pub mod Laid
-pub mod Holding
-pub mod Admitting

@@ -1,203 +1,118 @@
--- A fetch by parts, where it is refused and where it is taken.
+-- A fetch by parts, where it is refused and where it is taken: what holds of every engine with the parts.
 use Prim.Native.Nat.{ℕ, ◌+◌, ◌*◌, ◌%◌, ◌≤◌, ◌<◌}
-use mathlib.Core.Path.{◌≡◌, refl, sym, ap, ◌∙◌}
-use mathlib.Core.Bool.{true, false, not}
-use Rattle.std.specs.Prelude.{Option, None, Some}
+use mathlib.Core.Path.{◌≡◌, refl, sym, subst, ap, ◌∙◌}
+use Rattle.std.specs.Prelude.{Option, None, Some, Result, Ok, Err}
 use mathlib.Core.List.{List, [], ◌∷◌, ◌++◌}
-use native.Mathlib.Omega.{arith}
-use lib.Dec.{ltb}
-use lib.ListN.{length, set, length-set}
+use lib.ListN.{length, set}
 use Rattle.laws.specs.Means.{Means}
-use Rattle.laws.proofs.Tests.{cond-ne}
-use Rattle.laws.proofs.Slices.{All-set}
+use Rattle.capability.specs.declared.Refusal.{Refusal}
+use Rattle.capability.specs.Refusals.{refusal_number, refusal_of}
+use Rattle.model.specs.Config.{latency}
 use Rattle.model.specs.Op.{sequential_address}
 use Rattle.model.specs.Timeline.{write_all, open_writes}
-use Rattle.model.specs.Calls.{Check, first_of, fetch, refusal, run, reply}
+use Rattle.model.specs.Calls.{first_of, fetch, refusal, run, reply}
 use Rattle.op.specs.declared.PipelineOp.{PipelineOp}
 use Rattle.op.specs.View.{view_op}
+use Rattle.config.specs.declared.Machine.{Machine}
+use Rattle.config.specs.View.{view_machine}
 use Rattle.registers.specs.declared.Operands.{Operands}
 use Rattle.registers.specs.declared.RegisterTable.{RegisterTable}
-use Rattle.registers.specs.View.{OperandsOk}
-use Rattle.registers.specs.Promises.{ResolvedTo}
 use Rattle.flight.specs.declared.Queued.{Queued}
 use Rattle.flight.specs.declared.Queue.{Queue}
 use Rattle.flight.specs.View.{view_queued, view_queue, entries}
 use Rattle.flight.specs.Promises.{Queues}
 use Rattle.timeline.specs.declared.Tracks.{Tracks}
 use Rattle.timeline.specs.declared.Window.{Window}
-use Rattle.timeline.specs.View.{first_track, WindowOk, TracksOk, RowTextOk, RowTextsOk, all_tracks, opened}
-use Rattle.bank.specs.declared.Units.{Units}
+use Rattle.timeline.specs.View.{first_track, TracksOk, all_tracks}
 use Rattle.places.specs.Places.{Free}
-use Rattle.checks.specs.Numbered.{numbered}
-use Rattle.board.specs.declared.Sequencer.{Sequencer}
-use Rattle.board.specs.View.{board_of}
+use Rattle.board.specs.declared.Board.{Board}
 use Rattle.board.specs.Promises.{taken_places}
 use Rattle.engine.specs.Engine.{Engine}
-use Rattle.fetching.specs.declared.Intake.{Intake}
 use Rattle.engine.specs.View.{view_engine}
-use Rattle.fetching.specs.Fetching.{Queueing, row_text, Fetchable}
-use Rattle.fetching.specs.Taking.{Given, given, parts_of, Holds, Takable, Takes, TakeWrites}
-use Rattle.engine.proofs.Fits.{good-text}
-use Rattle.engine.proofs.Boards.{settled-done, settled-refused}
-use Rattle.fetching.proofs.Accepting.{queue-room, flight-few, accepting}
-use Rattle.fetching.proofs.Fetches.{first_rows, operation-fine, refused_first, second, fetchable, memory-stays, memory-opens}
+use Rattle.engine.specs.Valid.{Valid}
+use Rattle.fetching.specs.Fetching.{Queueing, Fetchable}
+use Rattle.fetching.specs.Taking.{NamesTo, engine_by, Admissible, Admitted, Admits, AdmitWrites}
+use Rattle.engine.proofs.Does.{does-refused, does-taken, memory_kept}
+use Rattle.fetching.proofs.Accepting.{queue-room, flight-few, next-board, accepting}
+use Rattle.fetching.proofs.Fetches.{first_rows, first_refusal, second, fetchable, memory-opens}
 
--- What a fetch works on: the board is a sequencer and units beside it.
-pub record Loan : Type 0 where
-  pub board : Sequencer
-  pub units : Units
-  pub window : Window
-  pub tracks : Tracks
-  pub operands : Operands
-  pub fixed : Option ℕ
-  pub cycles : ℕ
-  pub op : PipelineOp
+-- What a fetch of every engine with these parts is refused for.
+abbrev Refused : Board → Window → Tracks → Machine → RegisterTable → PipelineOp → ℕ → Option ℕ → Type 0
+Refused b w ts m t o lent n =
+    (e : Engine) → Valid (engine_by b w ts m t e) → refusal (view_engine (engine_by b w ts m t e)) (fetch (view_op o) lent) ≡ n
 
-abbrev pub given-of : Loan → Given
-given-of l = given (board_of l.board l.units) l.window l.tracks l.operands l.fixed l.cycles l.op
-
--- The checks before the names, and the one after them.
-abbrev pub before-names : Loan → List Check
-before-names l = first_rows (given-of l).board l.window.next l.op
-
-abbrev pub after-names : Loan → ℕ → List Check
-after-names l lent = (10, not true) ∷ (13, ltb lent (l.window.history * 200)) ∷ []
-
--- The first checks pass: the operation is resolved.
-resolves : (l : Loan) → first_of (before-names l) ≡ None → {e : Engine} {t : RegisterTable} → Holds (given-of l) e t
-    → ResolvedTo e.table (view_op l.op).info t (Some l.operands)
-resolves l h k = let f = operation-fine (given-of l).board l.window.next l.op h in k.numbers f.0 f.1
-
--- ── Refused ─────────────────────────────────────────────────────────────────
-
--- The parts are handed back.
-abbrev pub no-intake : Loan → ℕ → Intake
-no-intake l n = record { board = l.board; place = 80; no = n }
-
-module _ (l : Loan) {n : ℕ} (z : n ≡ 0 → ⊥) where
-  refusing
-      : {lent : ℕ}
-      → ((e : Engine) (t : RegisterTable) → Holds (given-of l) e t
-      → refusal (view_engine (parts_of (given-of l) e)) (fetch (view_op l.op) lent) ≡ Some n)
-      → Takes (given-of l) lent (no-intake l n) l.tracks
-  unfolding numbered
-  refusing h =
+module _ (o : PipelineOp) {b : Board} {w : Window} {ts : Tracks} {m : Machine} {t : RegisterTable} {lent : ℕ} where
+  refuses : {r : Result ℕ Refusal} {n : Refusal} → r ≡ Err n → Refused b w ts m t o lent (Some (refusal_number n)) → Admits b w ts m t o lent r b ts t
+  refuses {n = n} i h =
       record {
-        place = λ q. absurd (z q);
-        good = λ q. absurd (z q);
-        next = λ q. absurd (z q);
-        takes = λ q e f k a t. absurd (z q);
-        left = λ q. (refl, refl);
-        refuses = λ q e f k a t. settled-refused k.valid (cond-ne None (Some n) z ∙ sym (h e f k)) t z refl;
+        admitted = λ p q. cc;
+        refuses = λ k q e v. does-refused v (h e v ∙ ap (refusal_of {A = ℕ}) (sym i ∙ q));
       }
 
-  -- By the first checks.
-  module _ (h : first_of (before-names l) ≡ Some n) where
-    pub refuses-first : {lent : ℕ} → Takes (given-of l) lent (no-intake l n) l.tracks
-    refuses-first {lent} = refusing (λ e f k. refused_first k.valid l.op lent h)
+  pub refused_first : {r : Result ℕ Refusal} {n : Refusal} → r ≡ Err n → Some (refusal_number n) ≡ first_of (first_rows b w.next o)
+      → Admits b w ts m t o lent r b ts t
+  refused_first i h = refuses i (λ e v. first_refusal v o lent (sym h))
 
-    pub memory-first : (m : List ℕ) → TakeWrites (given-of l) m m
-    memory-first m e f k = memory-stays k.valid l.op m (refused_first k.valid l.op (length m) h)
+  module _ (h : None ≡ first_of (first_rows b w.next o)) {s : Result Operands Refusal} {u : RegisterTable}
+      (k : NamesTo t (view_op o).info lent w.history s u) where
+    last-refusal : Refused b w ts m t o lent (refusal_of s)
+    last-refusal e v = second v o lent (sym h) ∙ sym k.refused
 
-  -- By the last.
-  module _ (h : first_of (before-names l) ≡ None) where
-    pub refuses-last : {lent : ℕ} → first_of (after-names l lent) ≡ Some n → Takes (given-of l) lent (no-intake l n) l.tracks
-    refuses-last {lent} q = refusing (λ e f k. second k.valid l.op lent (resolves l h k) h ∙ q)
+    pub refused_last : {r : Result ℕ Refusal} {n : Refusal} → r ≡ Err n → s ≡ Err n → Admits b w ts m t o lent r b ts u
+    refused_last {r} {n} i j = subst (Admits b w ts m t o lent r b ts) (sym (k.left n j)) (refuses i (λ e v. last-refusal e v ∙ ap refusal_of j))
 
-    pub memory-last : (m : List ℕ) → first_of (after-names l (length m)) ≡ Some n → TakeWrites (given-of l) m m
-    memory-last m q e f k = memory-stays k.valid l.op m (second k.valid l.op (length m) (resolves l h k) h ∙ q)
+    module _ {x : Operands} (i : s ≡ Ok x) where
+      fetchable-by : (e : Engine) → Valid (engine_by b w ts m t e) → Fetchable (engine_by b w ts m t e) o lent
+      fetchable-by e v = fetchable v o lent (sym h) (sym k.refused ∙ ap refusal_of i)
 
--- ── Taken ───────────────────────────────────────────────────────────────────
+      module _ (a : Admissible b w ts m t) where
+        pub room_left : b.queue.len < 15
+        room_left = queue-room a.valid (fetchable-by a.engine a.valid)
 
-window-opened : {w : Window} → WindowOk w → WindowOk (opened w)
-window-opened k =
-    record { few = omega arith; past = omega (arith, k.past); least = k.least; most = k.most }
+        pub few_left : b.units.len + b.queue.len ≤ 78
+        few_left = flight-few a.valid (fetchable-by a.engine a.valid)
 
--- What it hands back.
-abbrev pub intake : Loan → ℕ → ℕ → Queue → Intake
-intake l p pc u =
-    record {
-      board =
-          record {
-            fetch_pc = pc;
-            queue = u;
-            offer = l.board.offer;
-            claims = l.board.claims;
-            front =
-                record {
-                  enabled = l.board.front.enabled;
-                  halted = l.board.front.halted;
-                  faulted = l.board.front.faulted;
-                  in_cycle = l.board.front.in_cycle;
-                  invited = false;
-                };
-            log = l.board.log;
-            marks = l.board.marks;
-            gone = l.board.gone;
-            status = l.board.status;
-          };
-      place = p;
-      no = 0;
-    }
+        pub room_there : w.history * 200 ≤ lent
+        room_there = (fetchable-by a.engine a.valid).room
 
-module _ (l : Loan) (lent : ℕ) (h : first_of (before-names l) ≡ None) (q : first_of (after-names l lent) ≡ None) where
-  module _ {e : Engine} {t : RegisterTable} (k : Holds (given-of l) e t) where
-    fine : Fetchable (parts_of (given-of l) e) l.op lent
-    fine = fetchable k.valid l.op lent (resolves l h k) h q
+        module _ {p pc cycles : ℕ} {q : Queued} {l : Queue} {us : Tracks}
+            (free : Free (taken_places b) p)
+            (slow : cycles ≡ latency (view_machine m).times o.class)
+            (entry : Queueing x o w.next cycles p q)
+            (queue : Queues l (entries b.queue ++ q ∷ []) (λ g. view_queue g b.queue ++ view_queued g q ∷ []))
+            (tracks : Means all_tracks TracksOk us (set ts.items (w.next % w.history) (first_track b.log.stats.cycles)))
+            (next : pc ≡ sequential_address m.instruction_bytes (view_op o).decoded) where
+          taken : Admitted b w ts m t o lent p (next-board b pc l) us u
+          unfolding run reply
+          taken =
+              let f = fetchable-by a.engine a.valid in
+              record {
+                there = free.there;
+                units = refl;
+                good = f.good;
+                next = f.next;
+                admits = λ e v row.
+                    let c = accepting v (fetchable-by e v) row (k.named x i) free next slow entry queue tracks in
+                    does-taken v (last-refusal e v ∙ ap refusal_of i) (λ n. refl) c.is c.parts;
+              }
 
-    taken-all : refusal (view_engine (parts_of (given-of l) e)) (fetch (view_op l.op) lent) ≡ None
-    taken-all = second k.valid l.op lent (resolves l h k) h ∙ q
+          pub admits : Admits b w ts m t o lent (Ok p) (next-board b pc l) us u
+          admits =
+              record {
+                admitted = λ n j. let e : p ≡ n = cc in subst (λ y. Admitted b w ts m t o lent y (next-board b pc l) us u) e taken;
+                refuses = λ n j. cc;
+              }
 
-  module _ (w : Takable (given-of l)) where
-    pub room-left : l.board.queue.len < 15
-    room-left = queue-room w.holds.valid (fine w.holds)
+-- ── The lent memory ─────────────────────────────────────────────────────────
 
-    pub few-left : l.units.len + l.board.queue.len ≤ 78
-    few-left = flight-few w.holds.valid (fine w.holds)
+module _ (o : PipelineOp) (c : List ℕ) {b : Board} {w : Window} {ts : Tracks} {m : Machine} {t : RegisterTable} where
+  pub kept_first : {n : ℕ} → Some n ≡ first_of (first_rows b w.next o) → AdmitWrites b w ts m t o c c
+  kept_first h e v = memory_kept _ _ c (first_refusal v o (length c) (sym h))
 
-    pub room-there : l.window.history * 200 ≤ lent
-    room-there = (fine w.holds).room
+  module _ (h : None ≡ first_of (first_rows b w.next o)) {s : Result Operands Refusal} {u : RegisterTable}
+      (k : NamesTo t (view_op o).info (length c) w.history s u) where
+    pub kept_last : {n : Refusal} → s ≡ Err n → AdmitWrites b w ts m t o c c
+    kept_last j e v = memory_kept _ _ c (last-refusal o h k e v ∙ ap refusal_of j)
 
-    pub numbers_ok : OperandsOk l.operands
-    numbers_ok = (resolves l h w.holds).numbers
-
-  module _ {p pc : ℕ} {x : Queued} {u : Queue} {ts : Tracks} (free : Free (taken_places (given-of l).board) p)
-      (next : pc ≡ sequential_address l.fixed (view_op l.op).decoded)
-      (entry : Queueing l.operands l.op l.window.next l.cycles p x)
-      (queue : Queues u (entries l.board.queue ++ x ∷ []) (λ m. view_queue m l.board.queue ++ view_queued m x ∷ []))
-      (tracks : Means all_tracks TracksOk ts (set l.tracks.items (l.window.next % l.window.history) (first_track l.board.log.stats.cycles)))
-      (size : length l.op.disassembly.bytes ≡ 64) where
-    text-ok : {e : Engine} {t : RegisterTable} → Holds (given-of l) e t → RowTextOk (row_text l.op)
-    text-ok k = record { size = size; fits = good-text l.op (fine k).good }
-
-    rows_ok : {e : Engine} {t : RegisterTable} → Holds (given-of l) e t
-        → RowTextsOk (record { items = set e.rows.items (l.window.next % l.window.history) (row_text l.op) })
-    rows_ok {e} k =
-        record {
-          size = length-set e.rows.items (l.window.next % l.window.history) (row_text l.op) ∙ k.valid.parts.rows.size;
-          each = All-set RowTextOk e.rows.items (l.window.next % l.window.history) (row_text l.op) k.valid.parts.rows.each (text-ok k);
-        }
-
-    pub taking : Takable (given-of l) → Takes (given-of l) lent (intake l p pc u) ts
-    unfolding numbered run reply
-    taking w =
-        record {
-          place = λ i. free.there;
-          good = λ i. (fine w.holds).good;
-          next = λ i. (fine w.holds).next;
-          takes =
-              λ i e f k a t.
-              let c =
-              accepting k.valid (fine k) (resolves l h k) free
-              (next ∙ ap (λ (n : Option ℕ). sequential_address n (view_op l.op).decoded) (sym k.fixed))
-              k.slow entry queue refl refl tracks (record { is = refl; ok = text-ok k }) (record { is = refl; ok = rows_ok k })
-              (record { is = refl; ok = window-opened k.valid.parts.window }) in
-              settled-done k.valid (sym (taken-all k)) t _ refl refl (λ m. refl) c.is c.parts;
-          left = λ i. absurd (i refl);
-          refuses = λ i e f k a t. absurd (i refl);
-        }
-
-pub memory-taken
-    : (l : Loan) → first_of (before-names l) ≡ None → (m : List ℕ) → first_of (after-names l (length m)) ≡ None → {n : List ℕ}
-    → n ≡ write_all (open_writes l.window.history l.window.next) m → TakeWrites (given-of l) m n
-memory-taken l h m q i e f k = i ∙ memory-opens k.valid l.op m (taken-all l (length m) h q k)
+    pub row_opened : {x : Operands} → s ≡ Ok x → {d : List ℕ} → d ≡ write_all (open_writes w.history w.next) c → AdmitWrites b w ts m t o c d
+    row_opened i q e v = q ∙ memory-opens v o c (last-refusal o h k e v ∙ ap refusal_of i)

@@ -3,29 +3,26 @@
 
 ghost use Rattle.std.specs.Prelude.{◌≡◌, length, false, ◌<◌, ◌≤◌};
 ghost use Rattle.laws.specs.Means.{Means};
-ghost use Rattle.model.specs.Calls.{bad_info};
-ghost use Rattle.registers.specs.View.{OperandsOk};
+ghost use Rattle.model.specs.Calls.{bad_info, too_many};
+ghost use Rattle.registers.specs.View.{OperandsOk, TableOk};
 ghost use Rattle.timeline.specs.View.{RowTextOk};
 ghost use Rattle.op.specs.View.{view_op};
-ghost use Rattle.tracks.specs.View.{tracks_of, TracksSized};
-ghost use Rattle.slots.specs.View.{units_of, Sized};
-ghost use Rattle.board.specs.View.{board_of};
-ghost use Rattle.engine.specs.Engine.{window_of};
 ghost use Rattle.fetching.specs.Fetching.{row_text, Queueing};
-ghost use Rattle.fetching.specs.Taking.{given, Takable, Takes, TakeWrites, Admissible, Admits, AdmitWrites};
+ghost use Rattle.fetching.specs.Taking.{NamesTo, Admissible, Admits, AdmitWrites};
 
-use board::{Board, Sequencer};
+use board::Board;
+use capability::Refusal;
 use config::Machine;
-use flight::{Operands, Queued};
+use flight::Queued;
 use op::PipelineOp;
-use registers::RegisterTable;
+use registers::{Operands, RegisterTable};
 use timeline::{RowText, Tracks, Window};
 
 // model: Scoreboard.fetched_op
-fn queued(operands: Operands, op: PipelineOp, seq: u64, latency: u8, place: usize) -> Queued
+fn queued(operands: Operands, op: &PipelineOp, seq: u64, latency: u8, place: usize) -> Queued
     requires operands_ok { OperandsOk operands }
     requires place_bound { place < 80 }
-    ensures { Queueing operands op seq latency place result }
+    ensures { Queueing operands op.now seq latency place result }
 {
     Queued {
         seq,
@@ -39,172 +36,64 @@ fn queued(operands: Operands, op: PipelineOp, seq: u64, latency: u8, place: usiz
 }
 
 // model: Timeline.row_of, what stays
-pub fn row_of(op: PipelineOp) -> RowText
-    requires { bad_info (view_op op).info ≡ false }
-    ensures { Means (λ (x : RowText). x) RowTextOk result (row_text op) }
+pub fn row_of(op: &PipelineOp) -> RowText
+    requires { bad_info (view_op op.now).info ≡ false }
+    ensures { Means (λ (x : RowText). x) RowTextOk result (row_text op.now) }
 {
     RowText {
         address: op.address,
         class: op.class,
         atomic: op.atomic,
-        disassembly: op.disassembly,
+        disassembly: op.disassembly.whole(),
     }
 }
 
-// What a fetch changes, but for what stands at `place` in the pool and the row of its number, which the caller sets; where `no` is not 0, what came in.
-#[derive(Drop)]
-pub struct Intake {
-    pub board: Sequencer,
-    pub place: usize,
-    pub no: u8,
+// The numbers of an operation's registers: refused where the names would be over 256, or else where memory is short; then the table is as it was.
+#[tactic(auto, using(crate::proofs::Naming::names_full, crate::proofs::Naming::names_short, crate::proofs::Naming::names_tried))]
+fn resolve(
+    table: &mut RegisterTable,
+    op: &PipelineOp,
+    lent: usize,
+    history: usize,
+) -> Result<Operands, Refusal>
+    requires table_ok { TableOk table.old }
+    requires op_value { bad_info (view_op op.now).info ≡ false }
+    requires op_value_2 { too_many (view_op op.now).info ≡ false }
+    requires history_bound { history ≤ 256 }
+    ensures { NamesTo table.old (view_op op.now).info lent history result table.new }
+{
+    if let Err(short) = checks::short(lent, history) {
+        let mut names = *table;
+        names.resolve(op).ok_or(Refusal::NamesFull)?;
+        return Err(short);
+    }
+    table.resolve(op).ok_or(Refusal::NamesFull)
 }
 
-// A fetch, where the operation's names are known to fit: `operands` are their numbers. `next`, `rows` and `history` are the window; `fixed` is the
-// machine's length of an operation, `latency` that of its class.
+// A fetch, but for what stands at its place in the pool, and the row of its number, which the caller sets.
 // model: Calls.refusal, Calls.memory_after, of fetch; Scoreboard.fetched
-pub fn taken(
-    board: Sequencer,
-    us: &[[u8; 40]],
-    ss: &[u64],
-    n: usize,
-    ts: &mut [[u8; 2]],
-    fs: &mut [u64],
-    next: u64,
-    rows: usize,
-    history: usize,
-    operands: Operands,
-    fixed: Option<u64>,
-    latency: u8,
-    op: PipelineOp,
+pub fn fetch(
+    board: &mut Board,
+    window: Window,
+    tracks: &mut Tracks,
+    machine: &Machine,
+    table: &mut RegisterTable,
+    op: &PipelineOp,
     cells: &mut [u8],
-) -> Intake
-    requires sized { Sized us.now ss.now }
-    requires tracks_sized { TracksSized ts.old fs.old }
-    requires takable { Takable (given (board_of board (units_of us.now ss.now n)) (window_of next rows history) (tracks_of ts.old fs.old) operands fixed latency op) }
-    ensures done { Takes (given (board_of board (units_of us.now ss.now n)) (window_of next rows history) (tracks_of ts.old fs.old) operands fixed latency op) (length cells.old) result (tracks_of ts.new fs.new) }
-    ensures memory { TakeWrites (given (board_of board (units_of us.now ss.now n)) (window_of next rows history) (tracks_of ts.old fs.old) operands fixed latency op) cells.old cells.new }
-    ensures tracks { TracksSized ts.new fs.new }
+) -> Result<usize, Refusal>
+    requires { Admissible board.old window tracks.old machine.now table.old }
+    ensures done { Admits board.old window tracks.old machine.now table.old op.now (length cells.old) result board.new tracks.new table.new }
+    ensures memory { AdmitWrites board.old window tracks.old machine.now table.old op.now cells.old cells.new }
 {
-    let first = checks::fetch(board.front.in_cycle, board.front.invited, op, next);
-    if first != 0 {
-        return Intake {
-            board,
-            place: 80,
-            no: first,
-        };
-    }
-    let no = checks::fetch_names(true, cells.len(), history);
-    if no != 0 {
-        return Intake {
-            board,
-            place: 80,
-            no,
-        };
-    }
-    let window = Window {
-        next,
-        held: rows,
-        history,
-    };
-    let mut b = board;
-    let place = places::free_place(us, ss, n, b.queue, b.gone);
-    b.queue
-        .push_back(queued(operands, op, next, latency, place));
-    tracks::open(ts, fs, window, b.log.stats.cycles, cells);
-    b.fetch_pc = op.sequential_address(fixed);
-    b.front.invited = false;
-    Intake {
-        board: b,
-        place,
-        no: 0,
-    }
-}
-
-// What a fetch changes of an engine by value, but for what stands at `place` in the pool and the row of its number, which the caller sets; where `no`
-// is not 0, what came in.
-#[derive(Drop)]
-pub struct Admitted {
-    pub board: Board,
-    pub tracks: Tracks,
-    pub table: RegisterTable,
-    pub place: usize,
-    pub no: u8,
-}
-
-// A fetch, of board, tracks and names by value. Its method in crates/scoreboard has two call sites, so that it stays a call (docs/DECISIONS.md, 57).
-pub fn admit(
-    board: Board,
-    tracks: Tracks,
-    next: u64,
-    rows: usize,
-    history: usize,
-    machine: Machine,
-    table: RegisterTable,
-    op: PipelineOp,
-    cells: &mut [u8],
-) -> Admitted
-    requires { Admissible board (window_of next rows history) tracks machine table }
-    ensures done { Admits board (window_of next rows history) tracks machine table op (length cells.old) result }
-    ensures memory { AdmitWrites board (window_of next rows history) tracks machine table op cells.old cells.new }
-{
-    let first = checks::fetch(board.front.in_cycle, board.front.invited, op, next);
-    if first != 0 {
-        return Admitted {
-            board,
-            tracks,
-            table,
-            place: 80,
-            no: first,
-        };
-    }
-    let mut names = table;
-    let Some(operands) = names.resolve(&op) else {
-        return Admitted {
-            board,
-            tracks,
-            table,
-            place: 80,
-            no: 10,
-        };
-    };
-    let units = board.units;
-    let n = units.len;
-    let mut us = [[0u8; 40]; 64];
-    let mut ss = [0u64; 64];
-    slots::spread(units, &mut us, &mut ss);
-    let mut ts = [[0u8; 2]; 256];
-    let mut fs = [0u64; 256];
-    tracks::spread(tracks, &mut ts, &mut fs);
-    let r = taken(
-        Sequencer::of(board),
-        &us,
-        &ss,
-        n,
-        &mut ts,
-        &mut fs,
-        next,
-        rows,
-        history,
-        operands,
-        machine.instruction_bytes,
-        machine.latency(op.class),
-        op,
-        cells,
-    );
-    if r.no != 0 {
-        return Admitted {
-            board,
-            tracks,
-            table,
-            place: 80,
-            no: r.no,
-        };
-    }
-    Admitted {
-        board: r.board.board(units),
-        tracks: tracks::gathered(&ts, &fs),
-        table: names,
-        place: r.place,
-        no: r.no,
-    }
+    checks::fetch(board.front.in_cycle, board.front.invited, op, window.next)?;
+    let operands = resolve(table, op, cells.len(), window.history)?;
+    let place = places::free_place(&board.units, &board.queue, board.gone);
+    let latency = machine.latency(op.class);
+    board
+        .queue
+        .push_back(queued(operands, op, window.next, latency, place));
+    tracks.open(window, board.log.stats.cycles, cells);
+    board.fetch_pc = op.sequential_address(machine.instruction_bytes);
+    board.front.invited = false;
+    Ok(place)
 }

@@ -3,10 +3,7 @@ use Rattle.std.specs.Prelude.{ℕ, ◌≡◌, List, Option, option_map}
 use Rattle.laws.specs.Texts.{Text}
 use Rattle.model.specs.Op.{Op}
 use Rattle.model.specs.Units.{unit_at}
-use Rattle.model.specs.Write.{resolve_branch}
 use Rattle.model.specs.Views.{OfferView as ModelOffer, offer_view}
-use Rattle.model.specs.Calls.{offered, resolved}
-use Rattle.registers.specs.View.{claimed as index}
 use Rattle.flight.specs.declared.pool.Decoded.{Decoded}
 use Rattle.flight.specs.declared.pool.DecodedPool.{DecodedPool}
 use Rattle.flight.specs.declared.pool.TextPool.{TextPool}
@@ -14,8 +11,9 @@ use Rattle.flight.specs.Pool.{legend}
 use Rattle.units.specs.declared.Unit.{Unit as Slot}
 use Rattle.bank.specs.declared.Units.{Units}
 use Rattle.bank.specs.View.{view_units}
-use Rattle.engine.specs.declared.Answer.{Answer}
-use Rattle.engine.specs.View.{view_answer}
+use Rattle.board.specs.declared.Board.{Board}
+use Rattle.engine.specs.declared.OfferView.{OfferView}
+use Rattle.engine.specs.View.{view_offer}
 
 abbrev pub offer_with : Slot → Decoded → ModelOffer
 offer_with u d =
@@ -30,12 +28,11 @@ offer_with u d =
       payload = d.payload;
     }
 
--- The operation on offer: that of a unit, 64 for none.
-abbrev pub op_on_offer : DecodedPool → TextPool → List Text → Units → ℕ → Option Op
-op_on_offer ds ts ns us w = option_map (λ (i : ℕ). (unit_at (view_units (legend ds ts ns) us) i).op) (index w)
+-- The operation on offer: that of a unit, if there is one.
+abbrev pub op_on_offer : DecodedPool → TextPool → List Text → Units → Option ℕ → Option Op
+op_on_offer ds ts ns us w = option_map (λ (i : ℕ). (unit_at (view_units (legend ds ts ns) us) i).op) w
 
-abbrev pub Offers : Units → DecodedPool → ℕ → Answer → Type 0
-Offers us ds w r = (ts : TextPool) (ns : List Text) → view_answer r ≡ offered (option_map offer_view (op_on_offer ds ts ns us w))
-
-abbrev pub Resolves : Units → DecodedPool → ℕ → ℕ → Answer → Type 0
-Resolves us ds w actual r = (ts : TextPool) (ns : List Text) → view_answer r ≡ resolved (resolve_branch (op_on_offer ds ts ns us w) actual)
+-- What is offered of it.
+abbrev pub Offers : Board → DecodedPool → Option OfferView → Type 0
+Offers b ds r =
+    (ts : TextPool) (ns : List Text) → option_map view_offer r ≡ option_map offer_view (op_on_offer ds ts ns b.units b.offer.writing)

@@ -1,0 +1,9 @@
+use Rattle.std.proofs.Common.{◌≡◌, Some, rules}
+use Rattle.offering.proofs.Answers.{on_offer_inside, unit_offers}
+use Rattle.offering.proofs.offered.Goals as goal
+
+pub returns : goal.returns
+returns c ts ns =
+    let ok = c.requires.board_ok in
+    let p : c.args.board.now.offer.writing ≡ Some c.in_ok-u.field-0 = search rules in
+    unit_offers c.args.decoded.now ts ns ok.units p (on_offer_inside ok p) _ c.at.ensures c.offer_view.ensures
