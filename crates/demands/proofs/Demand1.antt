@@ -1,34 +1,19 @@
 -- Demand 1 over the code, from demand 1 over the model and the contracts.
 use Prim.Native.Nat.{ℕ}
 use mathlib.Core.Path.{◌≡◌, refl, sym, ap, ◌∙◌}
-use Rattle.std.specs.Prelude.{Option, None, Some}
+use Rattle.std.specs.Prelude.{Option, None, Some, Result, Ok, Err, IfOk}
 use mathlib.Core.List.{List}
 use lib.ListN.{length}
 use Rattle.laws.specs.Optional.{when_some}
+use Rattle.capability.specs.declared.Refusal.{Refusal}
+use Rattle.capability.specs.Refusals.{refusal_of}
 use Rattle.model.specs.State.{State, new}
-use Rattle.model.specs.Calls.{Call, refused, done, make_refusal, refusal, answer, reply, no_machine, made, make, memory_made, make_memory}
+use Rattle.model.specs.Calls.{Call, Answer, refused, done, make_refusal, refusal, answer, reply, no_machine, made, make, memory_made, make_memory}
 use Rattle.refusals.proofs.Demand1.{demand-1 as model-demand-1, demand-1-making as model-making, taken-checks}
-use Rattle.engine.specs.declared.Answer.{Answer}
-use Rattle.engine.specs.declared.Answer.TheVariants as a
+use Rattle.engine.specs.View.{answer_by}
+use Rattle.scoreboard.specs.declared.ScoreboardPipeline.{ScoreboardPipeline}
 use Rattle.scoreboard.specs.View.{pipeline, view_engine}
-use Rattle.engine.specs.View.{view_answer}
-use Rattle.demands.specs.Demand1.{Demand1, Demand1Making}
-
--- Only `Refused` means a refusal.
-is-refused : (x : Answer) (k : ℕ) → view_answer x ≡ refused k → x ≡ a.Refused k
-unfolding view_answer
-is-refused (a.Refused n) k e = cc
-is-refused a.Done k e = cc
-is-refused (a.Offered v) k e = cc
-is-refused a.NoOffer k e = cc
-is-refused (a.Resolved t) k e = cc
-is-refused a.NotResolved k e = cc
-is-refused (a.Invitation t) k e = cc
-is-refused a.NoInvitation k e = cc
-
-shows-refused : {x : Answer} {k : ℕ} → x ≡ a.Refused k → view_answer x ≡ refused k
-unfolding view_answer
-shows-refused e = ap view_answer e
+use Rattle.demands.specs.Demand1.{RefusesBy, Demand1, Demand1Making}
 
 -- An answer that refuses comes from that refusal.
 refused-by : (s : State) (m : List ℕ) (c : Call) (k : ℕ) → answer s m c ≡ refused k → refusal s c ≡ Some k
@@ -40,34 +25,42 @@ refused-by s m c k e = go (refusal s c) refl
     go (Some j) q =
         let z : refused j ≡ refused k = sym (ap (λ (o : Option ℕ). when_some o (reply s m c) refused) q) ∙ e in q ∙ cc
 
+-- What is handed back is no refusal.
+module _ {A : Type 0} (f : A → Answer) (yes : (a : A) (k : ℕ) → f a ≡ refused k → ⊥) where
+  is-refused : (x : Result A Refusal) (k : ℕ) → answer_by f x ≡ refused k → refusal_of x ≡ Some k
+  unfolding answer_by
+  is-refused (Ok a) k e = absurd (yes a k e)
+  is-refused (Err r) k e = cc
+
+  shows-refused : (x : Result A Refusal) (k : ℕ) → refusal_of x ≡ Some k → answer_by f x ≡ refused k
+  unfolding answer_by
+  shows-refused (Ok a) k e = cc
+  shows-refused (Err r) k e = cc
+
+  refuses-by : RefusesBy f
+  refuses-by e c x r m n d w =
+      let s = view_engine e in
+      let t = model-demand-1.0 s m c in
+      let says : (k : ℕ) → refusal_of x ≡ Some k → answer s m c ≡ refused k = λ k q. sym (d.answer m) ∙ shows-refused x k q in
+      record {
+        refused_first = λ k. (λ q. (t.refused_first k).0 (says k q), λ y. is-refused x k (d.answer m ∙ (t.refused_first k).1 y));
+        untouched = λ k q. (ap pipeline (d.refused k (refused-by s m c k (says k q))), w ∙ (t.untouched k (says k q)).1);
+        taken = λ y. let z = t.taken y in (d.answer m ∙ z.0, d.engine ∙ z.1, w ∙ z.2);
+        never_refused = λ k y q. t.never_refused k y (says k q);
+      }
+
 pub demand-1 : Demand1
-demand-1 e c r m n d w =
-    let s = view_engine e in
-    let t = model-demand-1.0 s m c in
-    let says : (k : ℕ) → r.answer ≡ a.Refused k → answer s m c ≡ refused k = λ k q. sym (d.answer m) ∙ shows-refused q in
+unfolding answer_by
+demand-1 =
     record {
-      refused_first = λ k. (λ q. (t.refused_first k).0 (says k q), λ x. is-refused r.answer k (d.answer m ∙ (t.refused_first k).1 x));
-      untouched = λ k q. (ap pipeline (d.refused k (refused-by s m c k (says k q))), w ∙ (t.untouched k (says k q)).1);
-      taken = λ x. let y = t.taken x in (d.answer m ∙ y.0, d.engine ∙ y.1, w ∙ y.2);
-      never_refused = λ k x q. t.never_refused k x (says k q);
+      of_done = refuses-by _ (λ a k q. cc);
+      of_offer = refuses-by _ (λ a k q. cc);
+      of_target = refuses-by _ (λ a k q. cc);
+      of_invitation = refuses-by _ (λ a k q. cc);
+      of_nothing = λ e c r m n d w. refuses-by {A = Unit {0}} (λ a. done) (λ a k q. cc) e c (Ok tt) r m n d w;
     }
 
 -- ── Making ──────────────────────────────────────────────────────────────────
-
-is-done : (x : Answer) → view_answer x ≡ done → x ≡ a.Done
-unfolding view_answer
-is-done (a.Refused n) e = cc
-is-done a.Done e = cc
-is-done (a.Offered v) e = cc
-is-done a.NoOffer e = cc
-is-done (a.Resolved t) e = cc
-is-done a.NotResolved e = cc
-is-done (a.Invitation t) e = cc
-is-done a.NoInvitation e = cc
-
-number-said : (o : Option ℕ) {x : Answer} {k : ℕ} → view_answer x ≡ when_some o done refused → x ≡ a.Refused k → o ≡ Some k
-number-said None {x} {k} e q = let z : refused k ≡ done = sym (shows-refused q) ∙ e in cc
-number-said (Some j) {x} {k} e q = let z : refused k ≡ refused j = sym (shows-refused q) ∙ e in cc
 
 number-made : (o : Option ℕ) (s : State) {k : ℕ} → when_some o (made s) no_machine ≡ no_machine k → o ≡ Some k
 number-made None s e = cc
@@ -77,24 +70,26 @@ none_made : (o : Option ℕ) {s : State} → when_some o (made s) no_machine ≡
 none_made None e = refl
 none_made (Some j) e = cc
 
+handed
+    : (x : Result ScoreboardPipeline Refusal) {P : ScoreboardPipeline → Type 0} → refusal_of x ≡ None → IfOk x P
+    → (e : ScoreboardPipeline) × ((x ≡ Ok e) × P e)
+handed (Ok e) q p = (e, (refl, p))
+handed (Err r) q p = cc
+
 pub demand-1-making : Demand1Making
 unfolding make make_memory
-demand-1-making d entry r m n z w =
-    let o = make_refusal d (length m) in
+demand-1-making d entry x m n z w =
     let t = model-making d entry m in
-    let by : (k : ℕ) → r.answer ≡ a.Refused k → o ≡ Some k = λ k q. number-said o z.answer q in
+    let by : (k : ℕ) → refusal_of x ≡ Some k → make_refusal d (length m) ≡ Some k = λ k q. sym z.refused ∙ q in
     record {
       refused_first =
           λ k. (
             λ q. (t.refused_first k).0 (ap (λ (p : Option ℕ). when_some p (made (new d entry)) no_machine) (by k q)),
-            λ x. is-refused r.answer k (z.answer ∙ ap (λ (p : Option ℕ). when_some p done refused) (number-made o (new d entry) ((t.refused_first k).1 x))),
+            λ y. z.refused ∙ number-made (make_refusal d (length m)) (new d entry) ((t.refused_first k).1 y),
           );
       untouched = λ k q. w ∙ ap (λ (p : Option ℕ). when_some p (memory_made d m) (λ (j : ℕ). m)) (by k q);
       taken =
-          λ x.
-          let y = none_made o (t.taken x).0 in (
-            is-done r.answer (z.answer ∙ ap (λ (p : Option ℕ). when_some p done refused) y),
-            z.engine y,
-            w ∙ (t.taken x).1,
-          );
+          λ y.
+          let e = handed x (z.refused ∙ none_made (make_refusal d (length m)) (t.taken y).0) z.made in
+          ((e.0, (e.1.0, e.1.1.engine)), w ∙ (t.taken y).1);
     }

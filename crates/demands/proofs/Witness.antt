@@ -6,6 +6,7 @@ use mathlib.Core.Logic.{inr}
 use Rattle.std.specs.Prelude.{Option, None}
 use mathlib.Core.List.{[], ◌∷◌}
 use native.Mathlib.Omega.{arith}
+use Rattle.std.proofs.Common.{rules}
 use lib.ListN.{get_or, replicate}
 use Rattle.laws.proofs.Slices.{All-replicate}
 use Rattle.capability.specs.declared.PipelineInstructionClass.{PipelineInstructionClass}
@@ -108,7 +109,7 @@ idle-board =
                 });
             len = 0;
           };
-      offer = record { writing = 64; retired = false };
+      offer = record { writing = None; retired = false };
       claims = record { unit = replicate 256 None; len = 0 };
       front = no_front;
       log =
@@ -143,7 +144,7 @@ plain-engine =
       tracks = record { items = replicate 256 (first_track 0) };
       decoded = record { items = replicate 80 no_decoded };
       machine = plain-machine;
-      table = record { names = replicate 256 no_name; known = 0; held = 0 };
+      table = record { names = replicate 256 no_name; hints = replicate 1024 0; known = 0; held = 0 };
       texts = record { items = replicate 80 no_texts };
       rows = record { items = replicate 256 no_text };
     }
@@ -170,7 +171,7 @@ board-ok =
       queue = record { few = omega arith; size = refl; each = All-replicate QueuedOk 16 _ (record { operands = no_operands-ok; place = omega arith }) };
       claims = record { count = omega arith; size = refl; free = All-replicate (λ (o : Option ℕ). o ≡ None) 256 None refl };
       log = record { few = omega arith; size = refl };
-      offer = λ h. absurd (let z : ⊥ = omega arith in z);
+      offer = tt;
       status = tt;
       gone = omega arith;
       knows = (record { sources = tt; destinations = tt; pending = tt }, tt);
@@ -194,6 +195,7 @@ ex-ok : SpecOk ex
 unfolding config-views everything op-views
 ex-ok =
     record {
+      bytes = refl;
       flags = refl;
       takes = all-taken;
       kind = record { named = refl; most = omega arith };
@@ -226,7 +228,7 @@ plain-parts =
       board = board-ok;
       window = record { few = omega arith; past = omega arith; least = omega arith; most = omega arith };
       tracks = record { size = refl; each = All-replicate TrackOk 256 (first_track 0) (record { some_cell = omega arith; few = omega arith; place = omega arith }) };
-      rows = record { size = refl; each = All-replicate RowTextOk 256 no_text (record { size = refl; fits = omega arith }) };
+      rows = record { size = refl; each = All-replicate RowTextOk 256 no_text (search rules) };
       machine = machine-ok;
       table =
           record {
@@ -234,6 +236,7 @@ plain-parts =
             held = omega arith;
             size = refl;
             each = All-replicate NameOk 256 no_name (omega arith);
+            hints = refl;
             distinct = tt;
           };
       decoded = record { size = refl };

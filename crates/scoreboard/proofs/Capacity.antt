@@ -1,11 +1,12 @@
 -- A change of capacity: kinds keep their names, and where the units are built anew no place is lost, since free units have none.
-use Prim.Native.Nat.{ℕ, zero, suc, ◌≤◌}
+use Prim.Native.Nat.{ℕ, zero, suc, ◌<◌}
 use mathlib.Core.Path.{◌≡◌, refl, sym, subst, ap, ap₂, ◌∙◌}
 use mathlib.Core.Bool.{Bool, false, cond}
 use mathlib.Core.Logic.{◌⊎◌, inl, inr, ⊎_elim}
-use Rattle.std.specs.Prelude.{None, slice_get, option_map}
+use Rattle.std.specs.Prelude.{None, IfSome, slice_get, option_map}
 use mathlib.Core.List.{List, [], ◌∷◌}
 use native.Mathlib.Omega.{arith}
+use Rattle.std.proofs.Common.{rules}
 use lib.Dec.{T, eqb, ltb}
 use lib.ListN.{get_or}
 use Rattle.laws.specs.Means.{Means}
@@ -13,7 +14,7 @@ use Rattle.laws.specs.Optional.{is_none}
 use Rattle.laws.specs.Lists.{All, count, modify}
 use Rattle.std.specs.List.{list_any}
 use Rattle.laws.specs.Texts.{Text}
-use Rattle.laws.proofs.Choices.{false-T}
+use Rattle.laws.proofs.Choices.{false-T, none-some}
 use Rattle.laws.proofs.Tests.{cond-ne, or-neither}
 use Rattle.model.specs.Config.{UnitSpec, spec_name, with_capacity, capacities, Machine as ModelMachine}
 use Rattle.model.specs.Units.{FunctionalUnit, idle_unit, is_busy, unit_at}
@@ -25,25 +26,35 @@ use Rattle.config.specs.declared.Machine.{Machine}
 use Rattle.config.specs.View.{view_machine}
 use Rattle.config.specs.Kept.{MachineOk}
 use Rattle.config.specs.Checks.{noted_specs, noted, capacity_checks, capacity_refusal}
-use Rattle.checks.specs.Numbered.{numbered}
 use Rattle.timeline.specs.declared.WaitForm.{WaitForm}
-use Rattle.timeline.specs.declared.WaitForm.TheVariants.{Overwrites, MemoryOrder, Drains, WaitsFor, WaitsForOlder, BehindBranch, BehindSystem, StillWrites, AllBusy, RedirectTo}
+use Rattle.timeline.specs.declared.WaitForm.TheVariants.{
+  Overwrites,
+  MemoryOrder,
+  Drains,
+  WaitsFor,
+  WaitsForOlder,
+  BehindBranch,
+  BehindSystem,
+  StillWrites,
+  AllBusy,
+  RedirectTo,
+}
 use Rattle.flight.specs.View.{Legend}
 use Rattle.stalls.specs.declared.Trace.{Trace}
 use Rattle.stalls.specs.View.{number_word, listed, view_stats, view_log}
 use Rattle.bank.specs.declared.Units.{Units}
-use Rattle.bank.specs.View.{view_units, places, UnitsOk}
+use Rattle.bank.specs.View.{view_units, places}
 use Rattle.board.specs.declared.Board.{Board}
 use Rattle.board.specs.View.{known_names, log_frame, view_board}
 use Rattle.board.specs.Promises.{queue_places, taken_places}
 use Rattle.board.proofs.Knowing.{blank}
-use Rattle.board.proofs.Vacancy.{Empty, no_offer, none-placed}
+use Rattle.board.proofs.Vacancy.{Empty, none-placed}
 use Rattle.board.proofs.Counting.{names_more, taken-count, apart-kept}
 use Rattle.engine.specs.Engine.{Engine}
 use Rattle.engine.specs.View.{legend_of, frame_of, view_engine}
 use Rattle.engine.specs.Valid.{Parts}
 use Rattle.scoreboard.specs.Control.{Built, Rebuilds}
-use Rattle.checks.proofs.Passing.{row-passes, no_number}
+use Rattle.checks.proofs.Passing.{row-passes}
 use Rattle.scoreboard.proofs.Fresh.{no-count}
 use Rattle.engine.proofs.Legends.{WaitAgrees, waits-agree}
 
@@ -86,52 +97,24 @@ none-counted (x ∷ l) h p n =
     let z : ◌≡◌ {A = ℕ} (cond (eqb p x) 1 0) 0 = cond-ne {A = ℕ} 1 0 (λ q. n (q ∙ h 0)) in omega (arith, z, none-counted l (λ i. h (suc i)) p n)
 
 -- Nothing is on offer, and none is busy: no unit has a place.
-pub free-places : {us : Units} {w : ℕ} → UnitsOk us → 64 ≤ w → Empty us w → ((g : Legend) → list_any is_busy (view_units g us) ≡ false) → (p : ℕ) → (p ≡ 80 → ⊥)
+pub free-places : (us : Units) → Empty us None → ((g : Legend) → list_any is_busy (view_units g us) ≡ false) → (p : ℕ) → (p ≡ 80 → ⊥)
     → count (eqb p) (places us) ≡ 0
-free-places {us} ok h e idle = none-counted (places us) each
-  where
-    each : (i : ℕ) → get_or (places us) i 80 ≡ 80
-    each i =
-        ⊎_elim (λ q. absurd (let z : ⊥ = omega (arith, q) in z)) (λ q. q)
-        (no_offer ok h (suc i) e blank i (free_at (view_units blank us) (idle blank) i))
+free-places us e idle =
+    none-counted (places us)
+    (λ i. ⊎_elim (λ q. none-some i q) (λ q. q) (e blank i (free_at (view_units blank us) (idle blank) i)))
 
 -- Nothing refuses the change.
 pub capacity-free
-    : (open_cycle : Bool) (kind n : ℕ) (ks : List UnitSpec) {no : ℕ}
-    → numbered no ≡ first_of ((4, open_cycle) ∷ (12, is_none (slice_get ks kind)) ∷ (1, ltb 64 (capacities (noted_specs kind n ks))) ∷ []) → no ≡ 0
+    : (open_cycle : Bool) (kind n : ℕ) (ks : List UnitSpec)
+    → first_of ((4, open_cycle) ∷ (12, is_none (slice_get ks kind)) ∷ (1, ltb 64 (capacities (noted_specs kind n ks))) ∷ []) ≡ None
     → (open_cycle ≡ false) × (capacity_refusal kind n ks ≡ None)
 unfolding capacity_refusal capacity_checks
-capacity-free open_cycle kind n ks e z = row-passes 4 {b = open_cycle} (capacity_checks kind n ks) (no_number e z)
+capacity-free open_cycle kind n ks e = row-passes 4 {b = open_cycle} (capacity_checks kind n ks) e
 
 -- ── The engine ──────────────────────────────────────────────────────────────
 
-abbrev pub with-bank : Units → Board → Board
-with-bank us b =
-    record {
-      units = us;
-      fetch_pc = b.fetch_pc;
-      queue = b.queue;
-      offer = b.offer;
-      claims = b.claims;
-      front = b.front;
-      log = b.log;
-      marks = b.marks;
-      gone = b.gone;
-      status = b.status;
-    }
-
 abbrev pub noted-engine : Units → Machine → Engine → Engine
-noted-engine us m e =
-    record {
-      board = with-bank us e.board;
-      window = e.window;
-      tracks = e.tracks;
-      decoded = e.decoded;
-      machine = m;
-      table = e.table;
-      texts = e.texts;
-      rows = e.rows;
-    }
+noted-engine us m e = record e { board = record e.board { units = us }; machine = m }
 
 module _ {e : Engine} (p : Parts e) (kind n : ℕ) {m : Machine} {us : Units}
     (k : Means view_machine MachineOk m (noted kind n (view_machine e.machine))) (u : Rebuilds (view_machine m) e.board.units us) where
@@ -178,7 +161,7 @@ module _ {e : Engine} (p : Parts e) (kind n : ℕ) {m : Machine} {us : Units}
   history-same = sym (ap (λ (a : ModelMachine). a.history) k.is)
 
   -- Nothing is on offer.
-  module _ (free : 64 ≤ b.offer.writing) where
+  module _ (free : b.offer.writing ≡ None) where
     vacant-still : (us ≡ b.units) ⊎ Built b.units us → Empty us b.offer.writing
     vacant-still (inl q) = subst (λ v. Empty v b.offer.writing) (sym q) p.vacant
     vacant-still (inr x) = none-placed us us.len x.places b.offer.writing
@@ -186,24 +169,15 @@ module _ {e : Engine} (p : Parts e) (kind n : ℕ) {m : Machine} {us : Units}
     counted_same : (us ≡ b.units) ⊎ Built b.units us → (q : ℕ) → (q ≡ 80 → ⊥) → count (eqb q) (places us) ≡ count (eqb q) (places b.units)
     counted_same (inl x) q h = ap (λ v. count (eqb q) (places v)) x
     counted_same (inr x) q h =
-        ap (count (eqb q)) x.places ∙ no-count q us.len h ∙ sym (free-places p.board.units free p.vacant x.idle q h)
+        ap (count (eqb q)) x.places ∙ no-count q us.len h ∙ sym (free-places b.units (subst (Empty b.units) free p.vacant) x.idle q h)
 
     pub noted-parts : b.front.in_cycle ≡ false → Parts r
     unfolding queue_places known_names noted
     noted-parts outside =
         record {
           board =
-              record {
-                units = u.ok;
-                queue = p.board.queue;
-                claims = p.board.claims;
-                log = p.board.log;
-                offer = λ h. absurd (let z : ⊥ = omega (arith, free) in z);
-                status = p.board.status;
-                gone = p.board.gone;
-                knows = u.knows b.claims.len p.board.knows;
-                known = p.board.known;
-              };
+              let nothing : IfSome b.offer.writing (λ (i : ℕ). i < us.len) = subst (λ o. IfSome o (λ (i : ℕ). i < us.len)) (sym free) tt in
+              search (rules, nothing, u.knows b.claims.len p.board.knows);
           window = p.window;
           tracks = p.tracks;
           rows = p.rows;

@@ -28,17 +28,7 @@ map-none f [] e = refl
 map-none f (x ∷ l) e = absurd (let z : ◌≡◌ {A = ℕ} (suc (length (map f l))) 0 = ap length e in omega arith)
 
 abbrev pub stopped-engine : Board → Engine → Engine
-stopped-engine b e =
-    record {
-      board = b;
-      window = e.window;
-      tracks = e.tracks;
-      decoded = e.decoded;
-      machine = e.machine;
-      table = record { names = e.table.names; known = e.table.known; held = e.table.known };
-      texts = e.texts;
-      rows = e.rows;
-    }
+stopped-engine b e = record e { board = b; table = record e.table { held = e.table.known } }
 
 module _ {e : Engine} (p : Parts e) {f : State → State} {r : Board} (d : Drops e.board r f) where
   nothing-queued : entries r.queue ≡ []

@@ -2,10 +2,9 @@
 use Rattle.model.specs.State.{State}
 use Rattle.flight.specs.View.{Legend}
 use Rattle.board.specs.View.{Frame}
-use Rattle.engine.specs.Engine.{Engine, Next as Outcome}
+use Rattle.engine.specs.Engine.{Engine}
 use Rattle.engine.specs.View as engine
 use Rattle.scoreboard.specs.declared.ScoreboardPipeline.{ScoreboardPipeline}
-use Rattle.scoreboard.specs.declared.Next.{Next}
 
 abbrev pub parts : ScoreboardPipeline → Engine
 parts e =
@@ -33,9 +32,6 @@ pipeline e =
       texts = e.texts;
       rows = e.rows;
     }
-
-abbrev pub outcome : Next → Outcome
-outcome r = record { engine = parts r.engine; answer = r.answer }
 
 abbrev pub legend_of : ScoreboardPipeline → Legend
 legend_of e = engine.legend_of (parts e)

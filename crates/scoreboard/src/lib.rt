@@ -1,30 +1,28 @@
-// The scoreboard (pipeline/ooo/scoreboard.rs): making, and the driver's calls. Each call takes the engine and hands back the next one; a refusal
-// hands back the very engine that came in. The work behind a call, over the parts that it reads and changes, stands in crates/offering, advancing and
-// fetching.
+// The scoreboard (pipeline/ooo/scoreboard.rs): making, and the driver's calls. Each call works on the engine where it stands, and a refusal leaves it as
+// it was. The work behind a call, over the parts that it reads and changes, stands in crates/offering, advancing and fetching.
 #![tactic(auto)]
 
 use bank::Units;
 use board::Board;
+use capability::Refusal;
 use config::{Machine, PipelineShape};
-use engine::{Answer, done_or};
-use flight::pool::{DecodedPool, TextPool};
-use op::Text;
+use engine::OfferView;
+use flight::pool::{Decoded, DecodedPool, TextPool, Texts};
+use op::{PipelineOp, Text};
 use registers::RegisterTable;
 use timeline::{RowTexts, Tracks, Window};
 
-// The rest of a cycle.
-pub mod advance;
-// A fetch.
-pub mod fetch;
 // Capacity, halt, fault, and both resets.
 pub mod control;
 
 ghost use Rattle.std.specs.Prelude.{◌≡◌, length};
 ghost use Rattle.laws.specs.Means.{Means};
-ghost use Rattle.model.specs.Calls.{make_memory, start, retire, retry, resolve};
+ghost use Rattle.model.specs.Calls.{make_memory, start, retire, retry, resolve, advance, fetch, memory_after};
 ghost use Rattle.op.specs.Chars.{view_text};
+ghost use Rattle.op.specs.View.{view_op};
 ghost use Rattle.config.specs.View.{view_shape, view_machine};
 ghost use Rattle.config.specs.Kept.{MachineOk};
+ghost use Rattle.engine.specs.View.{done_answer, offer_answer, target_answer, invitation_answer};
 ghost use Rattle.scoreboard.specs.View.{view_engine};
 ghost use Rattle.scoreboard.specs.Valid.{Parts, Valid};
 ghost use Rattle.scoreboard.specs.Calls.{new_state, Makes, Does};
@@ -40,12 +38,6 @@ pub struct ScoreboardPipeline {
     pub table: RegisterTable,
     pub texts: TextPool,
     pub rows: RowTexts,
-}
-
-#[derive(Drop)]
-pub struct Next {
-    pub engine: ScoreboardPipeline,
-    pub answer: Answer,
 }
 
 // model: State.new
@@ -66,87 +58,93 @@ fn new_engine(machine: Machine, entry: u64) -> ScoreboardPipeline
 }
 
 impl ScoreboardPipeline {
-    // A new engine; beside a refusal stands one of no use.
+    // A new engine.
     // model: Calls.make and Calls.make_memory
-    pub fn new(shape: PipelineShape, entry: u64, cells: &mut [u8]) -> Next
-        ensures made { Makes (view_shape shape) entry (length cells.old) result }
-        ensures memory { cells.new ≡ make_memory (view_shape shape) cells.old }
+    pub fn new(
+        shape: &PipelineShape,
+        entry: u64,
+        cells: &mut [u8],
+    ) -> Result<ScoreboardPipeline, Refusal>
+        ensures made { Makes (view_shape shape.now) entry (length cells.old) result }
+        ensures memory { cells.new ≡ make_memory (view_shape shape.now) cells.old }
     {
-        let no = checks::number_of(shape.checked(cells.len()));
-        if no != 0 {
-            return Next {
-                engine: new_engine(Machine::generic(), 0),
-                answer: Answer::Refused(no),
-            };
-        }
+        shape.checked(cells.len())?;
         let machine = shape.machine();
         timeline::cells::clear(cells, machine.history);
-        Next {
-            engine: new_engine(machine, entry),
-            answer: Answer::Done,
-        }
+        Ok(new_engine(machine, entry))
     }
 
     // Open a cycle and take the result that reaches the register file.
-    pub fn start_cycle(mut self) -> Next
-        requires { Valid self }
-        ensures { Does self start result }
+    pub fn start_cycle(&mut self) -> Result<Option<OfferView>, Refusal>
+        requires { Valid self.old }
+        ensures { Does self.old start (offer_answer result) self.new }
     {
-        let b = offering::write_result(self.board, self.decoded, true);
-        self.board = b.board;
-        Next {
-            engine: self,
-            answer: b.answer,
-        }
+        offering::start(&mut self.board, &self.decoded)
     }
 
-    pub fn retire(mut self) -> Next
-        requires { Valid self }
-        ensures { Does self retire result }
+    pub fn retire(&mut self) -> Result<(), Refusal>
+        requires { Valid self.old }
+        ensures { Does self.old retire (done_answer result) self.new }
     {
-        let b = offering::write_result(self.board, self.decoded, false);
-        self.board = b.board;
-        Next {
-            engine: self,
-            answer: b.answer,
-        }
+        offering::retire(&mut self.board)
     }
 
     // Put the offered operation back: the cycle is spent.
-    pub fn retry(mut self, reason: Text) -> Next
-        requires { Valid self }
-        ensures { Does self (retry (view_text reason)) result }
+    pub fn retry(&mut self, reason: Text) -> Result<(), Refusal>
+        requires { Valid self.old }
+        ensures { Does self.old (retry (view_text reason)) (done_answer result) self.new }
     {
-        let no = checks::retry(
-            self.board.front.in_cycle,
-            self.board.offer.writing,
-            self.board.offer.retired,
-            reason,
-        );
-        if no == 0 {
-            self.board = self.board.retry(reason);
-        }
-        Next {
-            engine: self,
-            answer: done_or(no),
-        }
+        offering::retry(&mut self.board, reason)
     }
 
     // Where the offered operation went, if not where the front end ran on to.
-    pub fn resolve(self, actual_next: u64) -> Next
-        requires { Valid self }
-        ensures { Does self (resolve actual_next) result }
+    pub fn resolve(&self, actual_next: u64) -> Result<Option<u64>, Refusal>
+        requires { Valid self.now }
+        ensures { Does self.now (resolve actual_next) (target_answer result) self.now }
     {
-        let board = self.board;
-        let no = checks::resolve(board.front.in_cycle, board.offer.writing);
-        let answer = if no != 0 {
-            done_or(no)
-        } else {
-            offering::resolve_answer(board.units, self.decoded, board.offer.writing, actual_next)
-        };
-        Next {
-            engine: self,
-            answer,
-        }
+        offering::resolve(&self.board, &self.decoded, actual_next)
+    }
+
+    // The rest of the cycle, and the address to fetch from.
+    pub fn advance(
+        &mut self,
+        redirect: Option<u64>,
+        cells: &mut [u8],
+    ) -> Result<Option<u64>, Refusal>
+        requires { Valid self.old }
+        ensures done { Does self.old (advance redirect (length cells.old)) (invitation_answer result) self.new }
+        ensures memory { cells.new ≡ memory_after (view_engine self.old) (advance redirect (length cells.old)) cells.old }
+    {
+        advancing::advance(
+            &mut self.board,
+            self.window,
+            &mut self.tracks,
+            &self.machine,
+            &mut self.table,
+            redirect,
+            cells,
+        )
+    }
+
+    // Accept a decoded operation into the fetch queue.
+    pub fn fetched(&mut self, op: &PipelineOp, cells: &mut [u8]) -> Result<(), Refusal>
+        requires { Valid self.old }
+        ensures done { Does self.old (fetch (view_op op.now) (length cells.old)) (done_answer result) self.new }
+        ensures memory { cells.new ≡ memory_after (view_engine self.old) (fetch (view_op op.now) (length cells.old)) cells.old }
+    {
+        let place = fetching::fetch(
+            &mut self.board,
+            self.window,
+            &mut self.tracks,
+            &self.machine,
+            &mut self.table,
+            op,
+            cells,
+        )?;
+        self.decoded.items[place] = Decoded::of(op, self.board.fetch_pc);
+        self.texts.items[place] = Texts::of(op);
+        self.rows.open(self.window, fetching::row_of(op));
+        self.window.open();
+        Ok(())
     }
 }

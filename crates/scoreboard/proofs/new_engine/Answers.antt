@@ -23,20 +23,14 @@ use Rattle.board.proofs.Parts.{state-by}
 use Rattle.engine.specs.View.{view_engine}
 use Rattle.scoreboard.specs.Calls.{new_state}
 use Rattle.engine.proofs.Dropping.{empty-looks}
-use Rattle.scoreboard.proofs.Fresh.{built-places, built-knows, empty-apart}
+use Rattle.scoreboard.proofs.Fresh.{built_places, built_knows, empty-apart}
 use Rattle.scoreboard.proofs.new_engine.Goals as goal
 
-pub build-requires : goal.build-requires
-build-requires c = c.requires
+pub new-requires-clause-units_value : goal.new-requires-clause-units_value
+new-requires-clause-units_value c = built_places (view_machine c.args.machine).specs c.build.ensures
 
-pub new-requires : goal.new-requires
-new-requires c =
-    let e = c.build.ensures in
-    let ks = (view_machine c.args.machine).specs in
-    record { units_ok = e.ok; units_value = built-places ks e; all = built-knows ks e 0 }
-
-pub new-requires-2 : goal.new-requires-2
-new-requires-2 c = c.requires.history_most
+pub new-requires-clause-all : goal.new-requires-clause-all
+new-requires-clause-all c = built_knows (view_machine c.args.machine).specs c.build.ensures 0
 
 pub returns : goal.returns
 unfolding new_state view_engine view_board view_rows from queue_places

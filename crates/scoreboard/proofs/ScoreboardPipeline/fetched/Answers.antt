@@ -1,76 +1,69 @@
-use mathlib.Core.Path.{◌≡◌, sym, subst, ◌∙◌}
-use lib.ListN.{length}
-use Rattle.model.specs.Calls.{fetch, memory_after}
+use mathlib.Core.Path.{◌≡◌, sym, subst, ap, ◌∙◌}
+use mathlib.Core.List.{List}
+use lib.ListN.{length, set}
+use Rattle.std.proofs.Common.{rules}
+use Rattle.std.specs.Prelude.{Result, Err}
+use Rattle.capability.specs.declared.Refusal.{Refusal}
+use Rattle.model.specs.Calls.{fetch, done}
 use Rattle.op.specs.View.{view_op}
+use Rattle.flight.specs.declared.pool.Decoded.{Decoded}
+use Rattle.flight.specs.declared.pool.Texts.{Texts}
+use Rattle.timeline.specs.declared.RowText.{RowText}
 use Rattle.timeline.specs.declared.Window.{Window}
-use Rattle.engine.specs.View.{view_engine}
+use Rattle.timeline.specs.View.{RowTextOk}
+use Rattle.engine.specs.View.{done_answer, answer_by}
 use Rattle.engine.specs.Calls.{Does}
-use Rattle.fetching.specs.Taking.{Admissible, Admits, AdmitWrites}
-use Rattle.engine.proofs.Does.{same_size}
-use Rattle.engine.proofs.Spreading.{full-window}
-use Rattle.fetching.proofs.Admitting.{does-admit}
+use Rattle.fetching.specs.Taking.{engine_by}
 use Rattle.scoreboard.specs.View.{parts}
-use Rattle.scoreboard.specs.declared.ScoreboardPipeline.{ScoreboardPipeline}
-use Rattle.scoreboard.proofs.ScoreboardPipeline.fetched.Goals.{then-rows-history, else-rows-history, then-r-eq0, else-r-eq0}
 use Rattle.scoreboard.proofs.ScoreboardPipeline.fetched.Goals as goal
 
-pub admit-r-requires : goal.admit-r-requires
-admit-r-requires c = record { engine = parts c.args.self; valid = c.requires }
+four
+    : (P : Window → Decoded → Texts → List RowText → Type 0) {w w' : Window} {d d' : Decoded} {t t' : Texts} {xs xs' : List RowText}
+    → w ≡ w' → d ≡ d' → t ≡ t' → xs ≡ xs' → P w' d' t' xs' → P w d t xs
+four P {w} {w'} {d} {d'} {t} {t'} {xs} {xs'} p q m i z =
+    subst (λ k. P k d t xs) (sym p) (subst (λ k. P w' k t xs) (sym q) (subst (λ k. P w' d' k xs) (sym m) (subst (P w' d' t') (sym i) z)))
 
-pub admit-r-requires-else-rows-history : goal.admit-r-requires-else-rows-history
-admit-r-requires-else-rows-history c = let e = parts c.args.self in
-    subst (λ (w : Window). Admissible e.board w e.tracks e.machine e.table) (sym (full-window c.requires.parts.window c.if-rows-history.false))
-    (record { engine = e; valid = c.requires })
+pub fetch-requires : goal.fetch-requires
+fetch-requires c = record { engine = parts c.args.self.now; valid = c.requires }
 
-pub shape_of-cells : goal.shape_of-cells
-shape_of-cells c =
-    let e = parts c.args.self in
-    let n = length c.args.cells.now in
-    let left : c.if-rows-history.cells ≡ memory_after (view_engine e) (fetch (view_op c.args.op) n) c.args.cells.now =
-    elim c.if-rows-history.branch [
-      | then-rows-history w ↦ w.cells-is ∙ w.admit-r.ensures.memory e c.requires
-      | else-rows-history w ↦
-          let r = w.admit-r-else-rows-history in
-          w.cells-is
-          ∙ subst (λ (x : Window). AdmitWrites e.board x e.tracks e.machine e.table c.args.op c.args.cells.now r.new.cells)
-          (full-window c.requires.parts.window w.if-rows-history.false) r.ensures.memory e c.requires
-    ] in
-    same_size (view_engine e) (fetch (view_op c.args.op) n) c.args.cells.now left
+pub returns-in_err-place-clause-done : goal.returns-in_err-place-clause-done
+unfolding answer_by
+returns-in_err-place-clause-done c =
+    let e = parts c.args.self.now in
+    let x = c.fetch.new in
+    let q : c.from_residual.result ≡ Err c.in_err-place.field-0.0 = search rules in
+    subst
+    (λ (y : Result (Unit {0}) Refusal).
+    Does e (fetch (view_op c.args.op.now) (length c.args.cells.now)) (done_answer y) (engine_by x.board e.window x.tracks e.machine x.table e))
+    (sym q)
+    (c.fetch.ensures.done.refuses c.in_err-place.field-0.0 c.in_err-place.was e c.requires)
 
-pub returns : goal.returns
-returns c =
-    let e = parts c.args.self in
-    let n = length c.args.cells.now in
-    -- What a fetch by parts says of what both calls hand back.
-    let admits : Admits e.board e.window e.tracks e.machine e.table c.args.op n c.if-rows-history.r =
-    elim c.if-rows-history.branch [
-      | then-rows-history w ↦ subst (Admits e.board e.window e.tracks e.machine e.table c.args.op n) (sym w.r-is) w.admit-r.ensures.done
-      | else-rows-history w ↦
-          let r = w.admit-r-else-rows-history in
-          subst (Admits e.board e.window e.tracks e.machine e.table c.args.op n) (sym w.r-is)
-          (subst (λ (x : Window). Admits e.board x e.tracks e.machine e.table c.args.op n r.result)
-          (full-window c.requires.parts.window w.if-rows-history.false) r.ensures.done)
-    ] in
-    let left : c.if-rows-history.cells ≡ memory_after (view_engine e) (fetch (view_op c.args.op) n) c.args.cells.now =
-    elim c.if-rows-history.branch [
-      | then-rows-history w ↦ w.cells-is ∙ w.admit-r.ensures.memory e c.requires
-      | else-rows-history w ↦
-          let r = w.admit-r-else-rows-history in
-          w.cells-is
-          ∙ subst (λ (x : Window). AdmitWrites e.board x e.tracks e.machine e.table c.args.op c.args.cells.now r.new.cells)
-          (full-window c.requires.parts.window w.if-rows-history.false) r.ensures.memory e c.requires
-    ] in
-    let a = c.done_or.result in
-    record {
-      done =
-          elim c.if-r-eq0.branch [
-            | then-r-eq0 w ↦
-                subst (λ (s : ScoreboardPipeline). Does e (fetch (view_op c.args.op) n) (record { engine = parts s; answer = a })) (sym w.self-is)
-                (does-admit c.requires admits w.if-r-eq0.true w.open.ensures.is w.slot-s.ensures.is w.of.ensures w.of-then-r-eq0.ensures
-                w.row_of.ensures.is c.done_or.ensures)
-            | else-r-eq0 w ↦
-                subst (λ (s : ScoreboardPipeline). Does e (fetch (view_op c.args.op) n) (record { engine = parts s; answer = a })) (sym w.self-is)
-                (admits.refuses w.if-r-eq0.false e c.requires a c.done_or.ensures)
-          ];
-      memory = left;
-    }
+pub returns-in_err-place-clause-memory : goal.returns-in_err-place-clause-memory
+returns-in_err-place-clause-memory c = c.fetch.ensures.memory (parts c.args.self.now) c.requires
+
+-- What stands at its place and the row are those of the operation, the row stands in the slot of its number, and the window is opened.
+pub returns-clause-done : goal.returns-clause-done
+unfolding answer_by
+returns-clause-done c =
+    let e = parts c.args.self.now in
+    let x = c.fetch.new in
+    let p = c.in_ok-place.place in
+    four
+    (λ w d t xs.
+    Does e (fetch (view_op c.args.op.now) (length c.args.cells.now)) done
+    (record {
+      board = x.board;
+      window = w;
+      tracks = x.tracks;
+      decoded = record { items = set e.decoded.items p d };
+      machine = e.machine;
+      table = x.table;
+      texts = record { items = set e.texts.items p t };
+      rows = record { items = xs };
+    }))
+    c.open-2.ensures.is c.of.ensures c.of-2.ensures
+    (c.open.ensures.is ∙ ap (set e.rows.items _) c.row_of.ensures.is)
+    ((c.fetch.ensures.done.admitted p c.in_ok-place.was).admits e c.requires (subst RowTextOk c.row_of.ensures.is c.row_of.ensures.ok))
+
+pub returns-clause-memory : goal.returns-clause-memory
+returns-clause-memory c = c.fetch.ensures.memory (parts c.args.self.now) c.requires

@@ -1,44 +1,38 @@
-use mathlib.Core.Path.{refl, ap}
+use mathlib.Core.Path.{◌≡◌, refl, sym}
+use Rattle.std.proofs.Common.{rules}
+use Rattle.std.specs.Prelude.{Err}
 use Rattle.model.specs.Scoreboard.{with_noted}
-use Rattle.model.specs.Calls.{checks, refusal, run, reply}
+use Rattle.model.specs.Calls.{done, checks, refusal, run, reply}
 use Rattle.config.specs.View.{view_machine}
 use Rattle.config.specs.Checks.{noted_specs}
 use Rattle.board.specs.View.{view_board}
-use Rattle.engine.specs.View.{view_engine}
-use Rattle.engine.proofs.Boards.{no_offer-outside, settled-done, settled-refused}
-use Rattle.scoreboard.proofs.Capacity.{capacity-free, noted-engine, noted-is, noted-parts}
+use Rattle.engine.specs.View.{view_engine, answer_by}
+use Rattle.engine.proofs.Does.{does-taken, does-exit}
+use Rattle.engine.proofs.Boards.{no_offer-outside}
+use Rattle.scoreboard.proofs.Capacity.{capacity-free, noted-is, noted-parts}
 use Rattle.scoreboard.specs.View.{parts}
-use Rattle.scoreboard.proofs.ScoreboardPipeline.set_capacity.Goals.{then-no-eq0, else-no-eq0}
 use Rattle.scoreboard.proofs.ScoreboardPipeline.set_capacity.Goals as goal
 
-pub noted-self-requires : goal.noted-self-requires
-noted-self-requires c =
-    let e = parts c.args.self in
-    record {
-      machine_ok = c.requires.parts.machine;
-      self_value =
-          (capacity-free e.board.front.in_cycle c.args.kind c.args.instances (view_machine e.machine).specs c.capacity-no.ensures
-          c.if-no-eq0.true).1;
-    }
+pub returns-in_err-capacity : goal.returns-in_err-capacity
+unfolding view_engine view_board refusal checks with_noted noted_specs
+returns-in_err-capacity c =
+    let q : c.from_residual.result ≡ Err c.in_err-capacity.field-0.0 = search rules in
+    does-exit c.requires (λ a. done) c.in_err-capacity.was c.capacity.ensures q
 
-pub rebuilt-self-requires : goal.rebuilt-self-requires
-rebuilt-self-requires c = record { units_ok = c.requires.parts.board.units; machine_ok = c.noted-self.ensures.ok }
+pub note-requires-clause-self_value : goal.note-requires-clause-self_value
+note-requires-clause-self_value c =
+    let e = parts c.args.self.now in
+    (capacity-free e.board.front.in_cycle c.args.kind c.args.instances (view_machine e.machine).specs (sym c.in_ok-capacity.ensures)).1
 
 pub returns : goal.returns
-unfolding view_engine view_board refusal checks run reply with_noted noted_specs
+unfolding view_engine view_board refusal checks run reply with_noted noted_specs answer_by
 returns c =
-    let e = parts c.args.self in
+    let e = parts c.args.self.now in
     let p = c.requires.parts in
-    elim c.if-no-eq0.branch [
-      | then-no-eq0 w ↦
-          let u = w.rebuilt-self in
-          let m = w.noted-self in
-          let outside =
-          (capacity-free e.board.front.in_cycle c.args.kind c.args.instances (view_machine e.machine).specs c.capacity-no.ensures
-          w.if-no-eq0.true).0 in
-          settled-done c.requires c.capacity-no.ensures c.done_or.ensures (noted-engine u.result m.result e) w.if-no-eq0.true
-          (ap parts w.self-is) (λ m. refl)
-          (noted-is p c.args.kind c.args.instances m.ensures u.ensures)
-          (noted-parts p c.args.kind c.args.instances m.ensures u.ensures (no_offer-outside c.requires outside) outside)
-      | else-no-eq0 w ↦ settled-refused c.requires c.capacity-no.ensures c.done_or.ensures w.if-no-eq0.false (ap parts w.self-is)
-    ]
+    let kind = c.args.kind in
+    let n = c.args.instances in
+    let free = sym c.in_ok-capacity.ensures in
+    let outside = (capacity-free e.board.front.in_cycle kind n (view_machine e.machine).specs free).0 in
+    does-taken c.requires free (λ m. refl)
+    (noted-is p kind n c.note.ensures c.rebuild.ensures)
+    (noted-parts p kind n c.note.ensures c.rebuild.ensures (no_offer-outside c.requires outside) outside)
