@@ -1,5 +1,3 @@
-pub mod Idle
 pub mod Cycles
-pub mod Fetching
 pub mod Taken
 pub mod Turns

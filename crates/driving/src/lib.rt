@@ -1,44 +1,35 @@
-// The run of the program `forecast`: it drives the engine by its calls alone, each on the parts that it works on. Each invitation takes a line, every
-// offer is retired, and it ends when the lines are used up and nothing is in flight.
+// The run of the program `forecast`: it drives the engine by its calls alone. Each invitation takes a line, every offer is retired, and it ends when the
+// lines are used up and nothing is in flight.
 #![tactic(auto)]
 
-ghost use Rattle.std.specs.Prelude.{◌≡◌, ◌≤◌, length};
-ghost use Rattle.model.specs.Scoreboard.{idle};
-ghost use Rattle.model.specs.Forecast.{forecast_shape, lent_of, forecast_run, fuel_for, going};
+ghost use Rattle.std.specs.Prelude.{◌≡◌, ◌≤◌, ◌<◌, length, drop};
+ghost use Rattle.model.specs.Forecast.{forecast_shape, lent_of, turn, forecast_run, fuel_for, going};
 ghost use Rattle.config.specs.View.{view_shape};
-ghost use Rattle.tracks.specs.View.{tracks_of, TracksSized};
-ghost use Rattle.slots.specs.View.{units_of, Sized};
-ghost use Rattle.board.specs.View.{board_of, BoardOk};
-ghost use Rattle.engine.specs.Engine.{Engine, with_board};
-ghost use Rattle.engine.specs.View.{view_engine};
-ghost use Rattle.engine.specs.Valid.{Valid};
-ghost use Rattle.advancing.specs.Advance.{rested};
-ghost use Rattle.scoreboard.specs.View.{parts};
-ghost use Rattle.driving.specs.Runs.{Starts, Cyclable, CyclesWith, Goes};
-ghost use Rattle.driving.specs.Fetching.{Fetchable, Fetches, FetchWrites};
+ghost use Rattle.scoreboard.specs.View.{view_engine};
+ghost use Rattle.scoreboard.specs.Valid.{Valid};
+ghost use Rattle.driving.specs.Runs.{Runs, line_taken, Cycles, Goes};
 
-use advancing::{Rest, advanced};
-use board::Sequencer;
-use capability::PipelineStageRole;
-use config::{Machine, PipelineShape, PipelineTiming, StageSpec, UnitSpec};
-use fetching::{row_of, taken};
-use flight::pool::{Decoded, Texts};
-use offering::retired;
-use op::PipelineOp;
-use registers::RegisterTable;
+use capability::{PipelineStageRole, Refusal};
+use config::{PipelineShape, PipelineTiming, StageSpec, UnitSpec};
+use lines::read_line;
 use scoreboard::ScoreboardPipeline;
-use timeline::Window;
 
-// A run: the engine, where the input that is left starts, how many lines were taken, and how it stands.
-#[derive(Drop)]
+// How a run stands.
+#[derive(Clone, Copy)]
+pub enum Standing {
+    Running,
+    // The lines are used up, and nothing is in flight.
+    Finished,
+    // A line was refused.
+    Refused(Refusal),
+}
+
+// A run: where the input that is left starts, how many lines were taken, and how it stands.
+#[derive(Clone, Copy)]
 pub struct Going {
-    pub engine: ScoreboardPipeline,
     pub at: usize,
     pub lines: u64,
-    // 0 while it goes on, 1 where it is finished, 2 where a line was refused.
-    pub stands: u8,
-    // What the line was refused with.
-    pub number: u8,
+    pub stands: Standing,
 }
 
 // model: Forecast.forecast_shape
@@ -71,240 +62,75 @@ pub fn forecast_shape() -> PipelineShape
     }
 }
 
-// model: Scoreboard.idle
-fn is_idle(board: Sequencer, us: &[[u8; 40]], ss: &[u64], n: usize) -> bool
-    requires sized { Sized us.now ss.now }
-    requires board_ok { BoardOk (board_of board (units_of us.now ss.now n)) }
-    ensures { (e : Engine) → result ≡ idle (view_engine (with_board (board_of board (units_of us.now ss.now n)) e)) }
-{
-    board.queue.len == 0 && !stepping::any_busy(us, ss, n)
-}
-
-// A start and a retire. Either may be refused, and leaves the board as it is: a start while a cycle is open, a retire where nothing is on offer.
-// model: Forecast.retire_offer, after a start
-fn started(board: Sequencer, us: &mut [[u8; 40]], ss: &mut [u64], n: usize) -> Sequencer
-    requires sized { Sized us.old ss.old }
-    requires board_ok { BoardOk (board_of board (units_of us.old ss.old n)) }
-    ensures is { (e : Engine) → Valid (with_board (board_of board (units_of us.old ss.old n)) e) → Starts (with_board (board_of board (units_of us.old ss.old n)) e) (with_board (board_of result (units_of us.new ss.new n)) e) }
-    ensures size { Sized us.new ss.new }
-{
-    let b = if board.front.in_cycle {
-        board
-    } else {
-        cycle::start(board, us, ss, n)
-    };
-    let settled = retired(b, us, ss);
-    settled.board
-}
-
-// A cycle up to its invitation.
+// A cycle up to its invitation: its offer, if there is one, is retired.
 // model: Forecast.cycle
-fn cycle(
-    board: Sequencer,
-    us: &mut [[u8; 40]],
-    ss: &mut [u64],
-    n: usize,
-    ts: &mut [[u8; 2]],
-    fs: &mut [u64],
-    window: Window,
-    machine: Machine,
-    known: usize,
-    held: usize,
-    cells: &mut [u8],
-) -> Rest
-    requires sized { Sized us.old ss.old }
-    requires tracks_sized { TracksSized ts.old fs.old }
-    requires cyclable { Cyclable (board_of board (units_of us.old ss.old n)) window (tracks_of ts.old fs.old) machine known held }
-    ensures is { CyclesWith (board_of board (units_of us.old ss.old n)) window (tracks_of ts.old fs.old) machine known held cells.old (rested result (units_of us.new ss.new n) (tracks_of ts.new fs.new)) cells.new }
-    ensures units { Sized us.new ss.new }
-    ensures tracks { TracksSized ts.new fs.new }
+fn cycle(engine: &mut ScoreboardPipeline, cells: &mut [u8])
+    requires { Valid engine.old }
+    ensures { Cycles engine.old cells.old engine.new cells.new }
 {
-    let half = started(board, us, ss, n);
-    advanced(
-        half,
-        us,
-        ss,
-        n,
-        ts,
-        fs,
-        window.next,
-        window.held,
-        window.history,
-        machine,
-        known,
-        held,
-        None,
-        cells,
-    )
+    // Either may be refused, and then leaves the engine as it is: a start while a cycle is open, a retire where nothing is on offer.
+    let _ = engine.start_cycle();
+    let _ = engine.retire();
+    // Refused where the lent memory is short.
+    let _ = engine.advance(None, cells);
 }
 
-// What a fetch leaves of the parts that it works on, the operation's place in the pool, and the number that refuses it, or 0.
-#[derive(Drop)]
-struct Fetched {
-    board: Sequencer,
-    table: RegisterTable,
-    place: usize,
-    no: u8,
-}
-
-// A fetch but for the place and the row. Its names are resolved once the operation is known to be good.
-// model: Calls.after, Calls.memory_after, of fetch
-fn fetch(
-    board: Sequencer,
-    us: &[[u8; 40]],
-    ss: &[u64],
-    n: usize,
-    ts: &mut [[u8; 2]],
-    fs: &mut [u64],
-    window: Window,
-    machine: Machine,
-    table: RegisterTable,
-    op: PipelineOp,
-    cells: &mut [u8],
-) -> Fetched
-    requires sized { Sized us.now ss.now }
-    requires tracks_sized { TracksSized ts.old fs.old }
-    requires fetchable { Fetchable (board_of board (units_of us.now ss.now n)) window (tracks_of ts.old fs.old) machine table }
-    ensures done { Fetches (board_of board (units_of us.now ss.now n)) window (tracks_of ts.old fs.old) machine table op (length cells.old) result (tracks_of ts.new fs.new) }
-    ensures memory { FetchWrites (board_of board (units_of us.now ss.now n)) window (tracks_of ts.old fs.old) machine table op cells.old cells.new }
-    ensures tracks { TracksSized ts.new fs.new }
-{
-    let first = checks::fetch(board.front.in_cycle, board.front.invited, op, window.next);
-    if first != 0 {
-        return Fetched {
-            board,
-            table,
-            place: 80,
-            no: first,
-        };
-    }
-    let mut names = table;
-    let Some(operands) = names.resolve(&op) else {
-        return Fetched {
-            board,
-            table,
-            place: 80,
-            no: 10,
-        };
-    };
-    let t = taken(
-        board,
-        us,
-        ss,
-        n,
-        ts,
-        fs,
-        window.next,
-        window.held,
-        window.history,
-        operands,
-        machine.instruction_bytes,
-        machine.latency(op.class),
-        op,
-        cells,
-    );
-    Fetched {
-        board: t.board,
-        table: names,
-        place: t.place,
-        no: t.no,
-    }
-}
-
-// So many turns at most: the fuel is never the reason to stop. It ends when the lines are used up and nothing is in flight, or where a line is refused;
-// a line is read only when an invitation takes it. The engine's parts are variables of the loop, its units and tracks lent from arrays here, and what a
-// fetch puts at its place and in its row is set here, so that what a call does not work on stays where it is (docs/DECISIONS.md, 57).
-// model: Forecast.forecast_run, turn, cycle_and_line, take_parsed, fuel_for
-pub fn run(engine: ScoreboardPipeline, input: &[u8], cells: &mut [u8]) -> Going
-    requires valid { Valid (parts engine) }
+// The line at the run's place is fetched, where it is one.
+// model: Forecast.take_parsed
+fn take_line(engine: &mut ScoreboardPipeline, run: &mut Going, input: &[u8], cells: &mut [u8])
+    requires valid { Valid engine.old }
+    requires running { Runs input.now run.old }
+    requires at_in_bounds { run.old.at < length input.now }
     requires input_len_bound { length input.now ≤ 65536 }
-    ensures { Goes input.now (forecast_run (fuel_for input.now) (going (lent_of (view_engine (parts engine)) cells.old) input.now 0)) result cells.new }
+    ensures { Goes input.now (line_taken input.now run.old.at run.old.lines (lent_of (view_engine engine.old) cells.old)) engine.new run.new cells.new }
 {
-    let whole = engine.board;
-    let units = whole.units;
-    let n = units.len;
-    let mut us = [[0u8; 40]; 64];
-    let mut ss = [0u64; 64];
-    slots::spread(units, &mut us, &mut ss);
-    let tracks = engine.tracks;
-    let mut ts = [[0u8; 2]; 256];
-    let mut fs = [0u64; 256];
-    tracks::spread(tracks, &mut ts, &mut fs);
-    let mut board = Sequencer::of(whole);
-    let mut window = engine.window;
-    let mut decoded = engine.decoded;
-    let machine = engine.machine;
-    let mut table = engine.table;
-    let mut texts = engine.texts;
-    let mut rows = engine.rows;
-    let mut at: usize = 0;
-    let mut lines: u64 = 0;
-    let mut stands: u8 = 0;
-    let mut number: u8 = 0;
-    for _turn in 0..100 * (input.len() + 1) {
-        if at == input.len() && is_idle(board, &us, &ss, n) {
-            stands = 1;
-            break;
-        }
-        let r = cycle(
-            board,
-            &mut us,
-            &mut ss,
-            n,
-            &mut ts,
-            &mut fs,
-            window,
-            machine,
-            table.known,
-            table.held,
-            cells,
-        );
-        board = r.board;
-        table.known = r.known;
-        table.held = r.held;
-        if !board.front.invited || at == input.len() {
-            continue;
-        }
-        let read = lines::read_line(input, at, board.fetch_pc);
-        at = read.next;
-        lines += 1;
-        let Some(op) = read.op else {
-            stands = 2;
-            number = 14;
-            break;
-        };
-        let t = fetch(
-            board, &us, &ss, n, &mut ts, &mut fs, window, machine, table, op, cells,
-        );
-        board = t.board;
-        if t.no != 0 {
-            stands = 2;
-            number = t.no;
-            break;
-        }
-        table = t.table;
-        decoded.items[t.place] = Decoded::of(&op, board.fetch_pc);
-        texts.items[t.place] = Texts::of(&op);
-        rows.items[window.slot(window.next)] = row_of(op);
-        window.open();
-    }
-    let b = board.board(slots::gathered(&us, &ss, n));
-    let gathered = tracks::gathered(&ts, &fs);
-    let e = ScoreboardPipeline {
-        board: b,
-        window,
-        tracks: gathered,
-        decoded,
-        machine,
-        table,
-        texts,
-        rows,
+    let read = read_line(input, run.at, engine.board.fetch_pc);
+    run.at = read.next;
+    run.lines += 1;
+    let Some(op) = read.op else {
+        run.stands = Standing::Refused(Refusal::BadForm);
+        return;
     };
-    Going {
-        engine: e,
-        at,
-        lines,
-        stands,
-        number,
+    if let Err(refusal) = engine.fetched(&op, cells) {
+        run.stands = Standing::Refused(refusal);
     }
+}
+
+// It ends when the lines are used up and nothing is in flight, or where a line is refused; a line is read only when an invitation takes it.
+// model: Forecast.turn, cycle_and_line
+fn turn(engine: &mut ScoreboardPipeline, run: &mut Going, input: &[u8], cells: &mut [u8])
+    requires valid { Valid engine.old }
+    requires running { Runs input.now run.old }
+    requires input_len_bound { length input.now ≤ 65536 }
+    ensures { Goes input.now (turn (lent_of (view_engine engine.old) cells.old) (drop run.old.at input.now) run.old.lines) engine.new run.new cells.new }
+{
+    if run.at == input.len() && engine.board.is_idle() {
+        run.stands = Standing::Finished;
+        return;
+    }
+    cycle(engine, cells);
+    if engine.board.front.invited && run.at < input.len() {
+        take_line(engine, run, input, cells);
+    }
+}
+
+// So many turns at most: the fuel is never the reason to stop.
+// model: Forecast.forecast_run, fuel_for
+pub fn run(engine: &mut ScoreboardPipeline, input: &[u8], cells: &mut [u8]) -> Going
+    requires valid { Valid engine.old }
+    requires input_len_bound { length input.now ≤ 65536 }
+    ensures { Goes input.now (forecast_run (fuel_for input.now) (going (lent_of (view_engine engine.old) cells.old) input.now 0)) engine.new result cells.new }
+{
+    let mut run = Going {
+        at: 0,
+        lines: 0,
+        stands: Standing::Running,
+    };
+    for _turn in 0..100 * (input.len() + 1) {
+        turn(engine, &mut run, input, cells);
+        if !matches!(run.stands, Standing::Running) {
+            break;
+        }
+    }
+    run
 }

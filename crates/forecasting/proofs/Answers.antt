@@ -11,21 +11,65 @@ use lib.ListN.{length, take, drop, replicate, length-replicate}
 use lib.Seq.{take_at, length-take-le}
 use borrow.Author.Tests.{lt-ltb, le-ltb}
 use Rattle.laws.specs.Optional.{when_some}
-use Rattle.std.specs.List.{list_any}
 use Rattle.laws.specs.Texts.{Text, bytes, utf8}
+use Rattle.laws.proofs.Choices.{none-some}
 use Rattle.laws.proofs.Tests.{cond-lt, cond-ge, when_some-some, when_some-none}
 use Rattle.model.specs.Config.{PipelineShape, at_least_one, specs_or_generic, capacities}
 use Rattle.model.specs.Timeline.{overlay, splice, write_all}
 use Rattle.model.specs.Requests.{short_for, buffer_with}
-use Rattle.model.specs.Calls.{overlap, first_of, too_big, bad_byte, bad_text, bad_spec_name, extra_overflows, make_checks, make_refusal, after, memory_after, make, make_memory, refusal, checks, sets, made, no_machine}
+use Rattle.model.specs.Calls.{
+  Answer,
+  overlap,
+  first_of,
+  too_big,
+  bad_byte,
+  bad_text,
+  bad_spec_name,
+  extra_overflows,
+  make_checks,
+  make_refusal,
+  after,
+  memory_after,
+  make,
+  make_memory,
+  refusal,
+  checks,
+  sets,
+  made,
+  no_machine,
+}
 use Rattle.model.specs.State.{new}
-use Rattle.model.specs.Forecast.{Forecast, Run, not_made, line_refused, going, not_written, lent_of, play, forecast_shape, forecast_run, fuel_for, excess, forecast_made, forecast_of, printed, cells_left, forecast, forecast_memory, forecast_checks, forecast_refusal, forecast_answer, forecast_out, written as model-written}
+use Rattle.model.specs.Forecast.{
+  Forecast,
+  Run,
+  not_made,
+  line_refused,
+  going,
+  not_written,
+  lent_of,
+  play,
+  forecast_shape,
+  forecast_run,
+  fuel_for,
+  excess,
+  forecast_made,
+  forecast_of,
+  printed,
+  cells_left,
+  forecast,
+  forecast_memory,
+  forecast_checks,
+  forecast_refusal,
+  forecast_answer,
+  forecast_out,
+  written as model-written,
+}
 use Rattle.timeline.proofs.Memory.{overlay-parts}
 use Rattle.capability.specs.declared.Refusal.TheVariants.{ShortMemory}
 use Rattle.traces.specs.Texts.{Laid, Written, written, Wrote}
-use Rattle.scoreboard.specs.declared.Next.{Next}
+use Rattle.scoreboard.specs.declared.ScoreboardPipeline.{ScoreboardPipeline}
 use Rattle.scoreboard.specs.View.{view_engine}
-use Rattle.scoreboard.specs.Calls.{Makes, Does}
+use Rattle.scoreboard.specs.Calls.{Made, Does}
 use Rattle.driving.specs.declared.Going.{Going}
 use Rattle.driving.specs.Runs.{view_run, Goes}
 use Rattle.forecasting.specs.View.{answered}
@@ -158,21 +202,23 @@ laid-front {t} {page} {page'} {n} h l =
 
 -- ── The run in code ─────────────────────────────────────────────────────────
 
-module _ (input cells : List ℕ) (h : 51200 ≤ length cells) (l : length input ≤ 65536) where
+module _ (cells : List ℕ) (h : 51200 ≤ length cells) {d : PipelineShape} (e : d ≡ forecast_shape) where
+  -- So much memory is not refused.
+  pub not-refused : (n : ℕ) → Some n ≡ make_refusal d (length cells) → ⊥
+  not-refused n q = none-some n (sym (q ∙ ap (λ x. make_refusal x (length cells)) e ∙ shape-made (length cells) h))
+
   -- From the engine that was made, with overlap on.
-  pub ran : {d : PipelineShape} {k on : Next} {g : Going} {cells₁ cells₂ : List ℕ} → d ≡ forecast_shape
-      → Makes d 0 (length cells) k
-      → cells₁ ≡ make_memory d cells
-      → Does k.engine (overlap true) on
-      → Goes input (forecast_run (fuel_for input) (going (lent_of (view_engine on.engine) cells₁) input 0)) g cells₂
-      → (forecast_of input cells ≡ view_run input g cells₂) × (cells₂ ≡ cells_left (view_run input g cells₂))
-  ran {d} {k} {on} {g} {cells₁} {cells₂} e m c o r =
-      let made-here : view_engine k.engine ≡ new forecast_shape 0 =
-      m.engine (ap (λ x. make_refusal x (length cells)) e ∙ shape-made (length cells) h) ∙ ap (λ x. new x 0) e in
-      let on-here : view_engine on.engine ≡ after (new forecast_shape 0) (overlap true) = o.engine ∙ ap (λ s. after s (overlap true)) made-here in
+  pub ran
+      : {k on r : ScoreboardPipeline} {a : Answer} {g : Going} {cells₁ cells₂ : List ℕ} (input : Text) → length input ≤ 65536 → Made d 0 k
+      → cells₁ ≡ make_memory d cells → Does k (overlap true) a on
+      → Goes input (forecast_run (fuel_for input) (going (lent_of (view_engine on) cells₁) input 0)) r g cells₂
+      → (forecast_of input cells ≡ view_run input r g cells₂) × (cells₂ ≡ cells_left (view_run input r g cells₂))
+  ran {k} {on} {r} {g = g} {cells₁} {cells₂} input l n c o s =
+      let on-here : view_engine on ≡ after (new forecast_shape 0) (overlap true) =
+      o.engine ∙ ap (λ s. after s (overlap true)) (n.engine ∙ ap (λ x. new x 0) e) in
       let cells-here : cells₁ ≡ make_memory forecast_shape cells = c ∙ ap (λ x. make_memory x cells) e in (
         whole_run input cells h l
             ∙ sym (ap₂ (λ s m. forecast_run (fuel_for input) (going (lent_of s m) input 0)) on-here cells-here)
-            ∙ sym r.is,
-        sym (run-cells input g cells₂),
+            ∙ sym s.is,
+        sym (run-cells input r g cells₂),
       )

@@ -10,26 +10,26 @@ ghost use Rattle.driving.specs.Runs.{view_run};
 ghost use Rattle.forecasting.specs.View.{view_outcome, answered, bytes_printed};
 
 use capability::Refusal;
-use driving::Going;
+use driving::{Going, Standing};
 use scoreboard::ScoreboardPipeline;
 use traces::texts::write_text;
 
 // model: Forecast.printed
-fn put_run(page: &mut [u8], g: &Going, cells: &[u8]) -> usize
-    requires valid { Valid g.now.engine }
-    requires history_in_bounds { g.now.engine.window.history * 200 ≤ length cells.now }
+fn put_run(page: &mut [u8], engine: &ScoreboardPipeline, run: &Going, cells: &[u8]) -> usize
+    requires valid { Valid engine.now }
+    requires history_in_bounds { engine.now.window.history * 200 ≤ length cells.now }
     requires in_bounds { 524288 ≤ length page.old }
-    ensures text { (input : Text) → Laid 0 (printed (view_run input g.now cells.now)) page.old page.new result }
+    ensures text { (input : Text) → Laid 0 (printed (view_run input engine.now run.now cells.now)) page.old page.new result }
     ensures most { result ≤ 524288 }
 {
-    match g.stands {
-        0 => 0,
-        1 => {
-            let e = &g.engine;
+    match run.stands {
+        Standing::Running => 0,
+        Standing::Finished => {
+            let e = engine;
             let n = pages::put_rows(page, 0, &e.machine, e.window, &e.tracks, &e.rows, cells);
             pages::put_totals(page, n, e.board.log.stats)
         }
-        _ => pages::put_refused(page, 0, g.lines, g.number),
+        Standing::Refused(refusal) => pages::put_refused(page, 0, run.lines, u8::from(refusal)),
     }
 }
 
@@ -56,10 +56,10 @@ pub fn forecast(input: &[u8], cells: &mut [u8], out: &mut [u8]) -> Result<usize,
         let n = pages::put_refused(&mut page, 0, 0, 14);
         return answered(write_text(&page[..n], out));
     }
-    let made = ScoreboardPipeline::new(driving::forecast_shape(), 0, cells);
-    let on = made.engine.set_enabled(true);
-    let g = driving::run(on.engine, input, cells);
-    let n = put_run(&mut page, &g, cells);
+    let mut engine = ScoreboardPipeline::new(&driving::forecast_shape(), 0, cells)?;
+    engine.set_enabled(true);
+    let run = driving::run(&mut engine, input, cells);
+    let n = put_run(&mut page, &engine, &run, cells);
     answered(write_text(&page[..n], out))
 }
 

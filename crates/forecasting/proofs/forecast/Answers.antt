@@ -6,7 +6,7 @@ use Rattle.model.specs.Forecast.{printed, cells_left}
 use Rattle.pages.proofs.Laid.{laid-most}
 use Rattle.forecasting.specs.View.{view_outcome}
 use Rattle.forecasting.proofs.Runs.{refused-most}
-use Rattle.forecasting.proofs.Answers.{told-short, told, excess-run, page-room, page-count, within-page, part-of-page, laid-front, ran}
+use Rattle.forecasting.proofs.Answers.{told-short, told, excess-run, page-room, page-count, within-page, part-of-page, laid-front, not-refused, ran}
 use Rattle.forecasting.proofs.forecast.Goals as goal
 
 pub returns-then-cells-lt51200 : goal.returns-then-cells-lt51200
@@ -46,21 +46,24 @@ returns-then-input-gt65536 c =
 
 -- ── A run ───────────────────────────────────────────────────────────────────
 
-pub set_enabled-on-requires : goal.set_enabled-on-requires
-set_enabled-on-requires c = c.new-made.ensures.made.valid
+pub set_enabled-requires : goal.set_enabled-requires
+set_enabled-requires c = c.in_ok-engine.ensures.made.made.valid
 
-pub run-g-requires : goal.run-g-requires
-run-g-requires c = record { valid = c.set_enabled-on.ensures.valid; input_len_bound = c.if-input-gt65536.false }
+pub run-run-requires : goal.run-run-requires
+run-run-requires c = record { valid = c.set_enabled.ensures.valid; input_len_bound = c.if-input-gt65536.false }
+
+pub returns-in_err-engine : goal.returns-in_err-engine
+returns-in_err-engine c = absurd (not-refused c.args.cells.now c.if-cells-lt51200.false c.forecast_shape.ensures _ c.in_err-engine.ensures.made.refused)
 
 pub slice_bounds-put_run-end : goal.slice_bounds-put_run-end
 slice_bounds-put_run-end c = page-count
 
 pub put_run-n-requires : goal.put_run-n-requires
 put_run-n-requires c =
-    let v = c.run-g.ensures.valid in
+    let v = c.run-run.ensures.valid in
     record {
       valid = v;
-      history_in_bounds = omega (arith, v.parts.window.most, c.run-g.auto.cells, c.new-made.auto.cells, c.if-cells-lt51200.false);
+      history_in_bounds = omega (arith, v.parts.window.most, c.run-run.auto.cells, c.new.auto.cells, c.if-cells-lt51200.false);
       in_bounds = page-room 524288 (omega arith);
     }
 
@@ -71,7 +74,7 @@ pub slice_bounds-write_text-end-2 : goal.slice_bounds-write_text-end-2
 slice_bounds-write_text-end-2 c = part-of-page (replicate 524288 0) _ c.put_run-n.ensures.most (page-room 524288 (omega arith)) c.put_run-n.auto.page
 
 pub shape_of-cells : goal.shape_of-cells
-shape_of-cells c = c.run-g.auto.cells ∙ c.new-made.auto.cells
+shape_of-cells c = c.run-run.auto.cells ∙ c.new.auto.cells
 
 pub shape_of-out : goal.shape_of-out
 shape_of-out c = c.write_text-2.auto.out
@@ -79,8 +82,8 @@ shape_of-out c = c.write_text-2.auto.out
 pub returns : goal.returns
 returns c =
     let r =
-    ran _ _ c.if-cells-lt51200.false c.if-input-gt65536.false c.forecast_shape.ensures c.new-made.ensures.made c.new-made.ensures.memory
-    c.set_enabled-on.ensures c.run-g.ensures in
+    ran _ c.if-cells-lt51200.false c.forecast_shape.ensures _ c.if-input-gt65536.false c.in_ok-engine.ensures.made.made c.new.ensures.memory
+    c.set_enabled.ensures c.run-run.ensures in
     let t =
     told _ _ _ c.if-cells-lt51200.false r.0
     (laid-front {page = replicate 524288 0}
