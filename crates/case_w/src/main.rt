@@ -3,12 +3,11 @@
 // The file stdout is document 01's: a in cycle 8, b in 11, c in 12; RAW 4, WAR 2.
 #![tactic(auto)]
 
-ghost use Rattle.std.specs.Prelude.{◌≡◌, length, IfOk};
+ghost use Rattle.std.specs.Prelude.{◌≡◌, length};
 ghost use Rattle.scoreboard.specs.Valid.{Valid};
 
 use capability::{PipelineInstructionClass, PipelineStageRole};
-use config::{PipelineShape, StageSpec, UnitSpec};
-use engine::Answer;
+use config::{PipelineShape, UnitSpec};
 use op::{Name, PipelineOp, Text};
 use scoreboard::ScoreboardPipeline;
 use std::io;
@@ -50,60 +49,43 @@ fn operation_at(number: u64, address: u64) -> PipelineOp {
 // ── The run ─────────────────────────────────────────────────────────────────
 
 // The first half of a cycle: what is offered is told, and retired.
-fn offered(rt: &impl Print, engine: ScoreboardPipeline) -> io::Result<ScoreboardPipeline>
-    requires { Valid engine }
-    ensures { IfOk result (λ e. Valid e) }
+fn offered(rt: &impl Print, engine: &mut ScoreboardPipeline) -> io::Result<()>
+    requires { Valid engine.old }
+    ensures { Valid engine.new }
 {
-    let next = engine.start_cycle();
-    let after = next.engine;
-    let Answer::Offered(offer) = next.answer else {
-        return Ok(after);
+    let Ok(Some(offer)) = engine.start_cycle() else {
+        return Ok(());
     };
-    println!(rt;
-        "operation {} in cycle {}",
-        offer.seq, after.board.log.stats.cycles
-    )?;
-    Ok(after.retire().engine)
+    let cycle = engine.board.log.stats.cycles;
+    let _ = engine.retire();
+    println!(rt; "operation {} in cycle {cycle}", offer.seq)
 }
 
 // The second half: of three operations the next is fetched where one is invited.
-fn advanced(engine: ScoreboardPipeline, cells: &mut [u8]) -> ScoreboardPipeline
-    requires { Valid engine }
-    ensures valid { Valid result }
+fn advanced(engine: &mut ScoreboardPipeline, cells: &mut [u8])
+    requires { Valid engine.old }
+    ensures valid { Valid engine.new }
     ensures size { length cells.new ≡ length cells.old }
 {
-    let next = engine.advance(None, cells);
-    let after = next.engine;
-    let number = after.window.next;
-    match next.answer {
-        Answer::Invitation(address) if number < 3 => {
-            after.fetched(operation_at(number, address), cells).engine
+    let number = engine.window.next;
+    match engine.advance(None, cells) {
+        Ok(Some(address)) if number < 3 => {
+            let _ = engine.fetched(&operation_at(number, address), cells);
         }
-        _ => after,
+        _ => {}
     }
-}
-
-fn run(
-    rt: &impl Print,
-    engine: ScoreboardPipeline,
-    cells: &mut [u8],
-) -> io::Result<ScoreboardPipeline>
-    requires { Valid engine }
-    ensures { IfOk result (λ e. Valid e) }
-{
-    let mut e = engine;
-    for _ in 0..16 {
-        let half = offered(rt, e)?;
-        e = advanced(half, cells);
-    }
-    Ok(e)
 }
 
 fn main(rt: HostRuntime) -> io::Result<()> {
     let mut cells = [255u8; 800];
-    let made = ScoreboardPipeline::new(machine(), 0, &mut cells);
-    let on = made.engine.set_enabled(true);
-    let e = run(&rt, on.engine, &mut cells)?;
-    let stats = e.board.log.stats;
+    let Ok(mut engine) = ScoreboardPipeline::new(&machine(), 0, &mut cells) else {
+        return Ok(());
+    };
+    engine.set_enabled(true);
+    for _ in 0..16 {
+        offered(&rt, &mut engine)?;
+        advanced(&mut engine, &mut cells);
+    }
+    let stats = engine.board.log.stats;
     println!(rt; "RAW {}, WAR {}", stats.raw_stalls, stats.war_stalls)
 }

@@ -3,12 +3,11 @@
 // The file stdout is the Rust's own output (harness/src/bin/view_cases.rs).
 #![tactic(auto)]
 
-ghost use Rattle.std.specs.Prelude.{◌≡◌, length, IfOk};
+ghost use Rattle.std.specs.Prelude.{◌≡◌, length};
 ghost use Rattle.scoreboard.specs.Valid.{Valid};
 
 use capability::{PipelineInstructionClass, PipelineStageRole, Refusal};
 use config::{KindName, PipelineShape, UnitSpec};
-use engine::Answer;
 use inspect::stations::PipelineOperandView;
 use occupants::PipelineSlotView;
 use op::{Name, PipelineOp, Text};
@@ -409,83 +408,80 @@ fn operation_at(number: u64, address: u64) -> PipelineOp {
 // ── The run ─────────────────────────────────────────────────────────────────
 
 // The first half of a cycle: what is offered is retired.
-fn started(engine: ScoreboardPipeline) -> ScoreboardPipeline
-    requires { Valid engine }
-    ensures { Valid result }
+fn started(engine: &mut ScoreboardPipeline)
+    requires { Valid engine.old }
+    ensures { Valid engine.new }
 {
-    let next = engine.start_cycle();
-    match next.answer {
-        Answer::Offered(_) => next.engine.retire().engine,
-        _ => next.engine,
+    let offer = engine.start_cycle();
+    if matches!(offer, Ok(Some(_))) {
+        let _ = engine.retire();
     }
 }
 
 // The second half: of four operations the next is fetched where one is invited.
-fn advanced(engine: ScoreboardPipeline, cells: &mut [u8]) -> ScoreboardPipeline
-    requires { Valid engine }
-    ensures valid { Valid result }
+fn advanced(engine: &mut ScoreboardPipeline, cells: &mut [u8])
+    requires { Valid engine.old }
+    ensures valid { Valid engine.new }
     ensures size { length cells.new ≡ length cells.old }
 {
-    let next = engine.advance(None, cells);
-    let after = next.engine;
-    let number = after.window.next;
-    match next.answer {
-        Answer::Invitation(address) if number < 4 => {
-            after.fetched(operation_at(number, address), cells).engine
+    let number = engine.window.next;
+    match engine.advance(None, cells) {
+        Ok(Some(address)) if number < 4 => {
+            let _ = engine.fetched(&operation_at(number, address), cells);
         }
-        _ => after,
+        _ => {}
     }
 }
 
-fn run(engine: ScoreboardPipeline, cycles: usize, cells: &mut [u8]) -> ScoreboardPipeline
-    requires { Valid engine }
-    ensures valid { Valid result }
+fn run(engine: &mut ScoreboardPipeline, cycles: usize, cells: &mut [u8])
+    requires { Valid engine.old }
+    ensures valid { Valid engine.new }
     ensures size { length cells.new ≡ length cells.old }
 {
-    let mut e = engine;
     for _ in 0..cycles {
-        e = advanced(started(e), cells);
+        started(engine);
+        advanced(engine, cells);
     }
-    e
 }
 
 // Up to the offer: idle, rows evicted, a capacity noted.
-fn busy(
-    rt: &impl Print,
-    engine: ScoreboardPipeline,
-    cells: &mut [u8],
-) -> io::Result<ScoreboardPipeline>
-    requires { Valid engine }
-    ensures { IfOk result (λ e. Valid e) }
+fn busy(rt: &impl Print, engine: &mut ScoreboardPipeline, cells: &mut [u8]) -> io::Result<()>
+    requires { Valid engine.old }
+    ensures { Valid engine.new }
 {
-    let on = engine.set_enabled(true);
-    show(rt, "idle", &on.engine, cells)?;
-    let e = run(on.engine, 5, cells);
-    show(rt, "evicted", &e, cells)?;
-    let noted = run(e, 1, cells).set_capacity(0, 2);
-    show(rt, "noted", &noted.engine, cells)?;
-    Ok(run(noted.engine, 1, cells))
+    engine.set_enabled(true);
+    show(rt, "idle", engine, cells)?;
+    run(engine, 5, cells);
+    show(rt, "evicted", engine, cells)?;
+    run(engine, 1, cells);
+    let _ = engine.set_capacity(0, 2);
+    show(rt, "noted", engine, cells)?;
+    run(engine, 1, cells);
+    Ok(())
 }
 
 // From the offer on: halted, and built anew.
-fn stopped(rt: &impl Print, engine: ScoreboardPipeline, cells: &mut [u8]) -> io::Result<()>
-    requires { Valid engine }
+fn stopped(rt: &impl Print, engine: &mut ScoreboardPipeline, cells: &mut [u8]) -> io::Result<()>
+    requires { Valid engine.old }
 {
-    let offer = engine.start_cycle();
-    show(rt, "offer", &offer.engine, cells)?;
-    let settled = offer.engine.retire();
-    let e = advanced(settled.engine, cells);
-    let halted = run(e, 2, cells).halt();
-    show(rt, "halted", &halted.engine, cells)?;
-    let built = halted.engine.redirect(64);
-    show(rt, "built", &built.engine, cells)
+    let _ = engine.start_cycle();
+    show(rt, "offer", engine, cells)?;
+    let _ = engine.retire();
+    advanced(engine, cells);
+    run(engine, 2, cells);
+    engine.halt();
+    show(rt, "halted", engine, cells)?;
+    engine.redirect(64);
+    show(rt, "built", engine, cells)
 }
 
 fn main(rt: HostRuntime) -> io::Result<()> {
     let mut cells = [255u8; 400];
     edges(&rt)?;
     orders(&rt)?;
-    let made = ScoreboardPipeline::new(machine(), 0, &mut cells);
-    let e = busy(&rt, made.engine, &mut cells)?;
-    stopped(&rt, e, &mut cells)
+    let Ok(mut engine) = ScoreboardPipeline::new(&machine(), 0, &mut cells) else {
+        return Ok(());
+    };
+    busy(&rt, &mut engine, &mut cells)?;
+    stopped(&rt, &mut engine, &mut cells)
 }

@@ -3,4 +3,4 @@ use Rattle.scoreboard.specs.Valid.{Valid}
 use Rattle.view_cases.proofs.run.Given as goal
 
 abbrev pub invariant-loop : goal.invariant-loop
-invariant-loop l = Valid l.e
+invariant-loop l = Valid l.engine
