@@ -1,16 +1,17 @@
 // Bytes read from an input until a buffer is full or the input ends, and buffers to read into.
 #![tactic(auto)]
 
-ghost use Rattle.std.specs.Prelude.{◌≡◌, ◌<◌, ◌≤◌, length, take, IfOk};
+ghost use Rattle.std.specs.Prelude.{◌≡◌, ℕ, ◌<◌, ◌≤◌, length, get_or, take, IfOk};
 ghost use Rattle.std.specs.Io.{ReadsAtMost};
 ghost use Rattle.std.specs.Io.KnownBytes.{Consumes, IsAtEnd};
 
 use std::io;
 use std::io::Read;
 
-// A buffer of N bytes, all the same. (A caller's goals count its bytes by this clause, and do not write them out.)
+// A buffer of N bytes, all the same. (A caller's goals count its bytes by `size`, and do not write them out.)
 pub fn filled<const N: usize>(byte: u8) -> [u8; N]
-    ensures { length result ≡ N }
+    ensures size { length result ≡ N }
+    ensures each { (k : ℕ) → k < N → get_or result k 0 ≡ byte }
 {
     [byte; N]
 }

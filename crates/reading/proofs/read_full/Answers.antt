@@ -1,5 +1,26 @@
 -- A read puts its bytes behind those that are read already.
-use Rattle.std.proofs.Common.{◌≡◌, ℕ, ◌+◌, ◌-◌, ◌≤◌, List, ◌++◌, rules, arith, length, take, drop, slice_range, sym, ap, ◌∙◌, subst, le_refl, drop_at, length-take-le}
+use Rattle.std.proofs.Common.{
+  ◌≡◌,
+  ℕ,
+  ◌+◌,
+  ◌-◌,
+  ◌≤◌,
+  List,
+  ◌++◌,
+  rules,
+  arith,
+  length,
+  take,
+  drop,
+  slice_range,
+  sym,
+  ap,
+  ◌∙◌,
+  subst,
+  le_refl,
+  drop_at,
+  length-take-le,
+}
 use Rattle.std.proofs.lemmas.Slice.{take-put_mid_below}
 use Rattle.std.specs.Io.KnownBytes.{Consumes}
 use Rattle.std.proofs.KnownBytes.{Consumes-trans}
