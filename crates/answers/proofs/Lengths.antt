@@ -7,7 +7,22 @@ use native.Mathlib.Omega.{arith}
 use lib.ListN.{length, replicate, length-append, length-replicate}
 use Rattle.capability.specs.declared.PipelineHazardKind.{PipelineHazardKind}
 use Rattle.model.specs.Views.{SlotView, StageView, UnitView, OperandView, StationView}
-use Rattle.answers.specs.Bytes.{number_bytes, pad, optional, part, hazard_byte, byte_of, slot_bytes, slot_part, stage_bytes, kind_bytes, index_part, operand_bytes, operand_part, station_bytes}
+use Rattle.answers.specs.Bytes.{
+  number_bytes,
+  pad,
+  optional,
+  part,
+  hazard_byte,
+  byte_of,
+  slot_bytes,
+  slot_part,
+  stage_bytes,
+  kind_bytes,
+  index_part,
+  operand_bytes,
+  operand_part,
+  station_bytes,
+}
 
 -- ── Padded ──────────────────────────────────────────────────────────────────
 

@@ -14,13 +14,94 @@ use Rattle.model.specs.Timeline.{overlay, splice}
 use Rattle.model.specs.State.{State}
 use Rattle.model.specs.Scoreboard.{advance as do_advance}
 use Rattle.model.specs.Write.{offered_op, start_cycle, resolve_branch}
-use Rattle.model.specs.Views.{offer_view, edges as all_edges, stage_view, unit_view, trace_view, row_view, cell_view, cell_byte, station_view, claims, slot_view}
+use Rattle.model.specs.Views.{
+  offer_view,
+  edges as all_edges,
+  stage_view,
+  unit_view,
+  trace_view,
+  row_view,
+  cell_view,
+  cell_byte,
+  station_view,
+  claims,
+  slot_view,
+}
 use Rattle.model.specs.Requests.{Request, text_at, short_for, buffer_with}
-use Rattle.model.specs.Calls.{View, status, stats, enabled, fetch_pc, resume_pc, stage_count, edges, entry_stages, stage_order, unit_count, trace_count, timeline_len, station_count, rename_count, queue_count, buffer_count, buffer_capacity, in_flight_before, stage, unit, trace, timeline_row, station, rename, queued, buffer_entry, Call, start, retire, retry, resolve, advance, fetch, capacity, overlap, halt, fault, reset, redirect, view, cell, text, first_of, checks, refusal, Answer, refused, shown_text, show, invitation_of, reply, answer, buffer_after}
+use Rattle.model.specs.Calls.{
+  View,
+  status,
+  stats,
+  enabled,
+  fetch_pc,
+  resume_pc,
+  stage_count,
+  edges,
+  entry_stages,
+  stage_order,
+  unit_count,
+  trace_count,
+  timeline_len,
+  station_count,
+  rename_count,
+  queue_count,
+  buffer_count,
+  buffer_capacity,
+  in_flight_before,
+  stage,
+  unit,
+  trace,
+  timeline_row,
+  station,
+  rename,
+  queued,
+  buffer_entry,
+  Call,
+  start,
+  retire,
+  retry,
+  resolve,
+  advance,
+  fetch,
+  capacity,
+  overlap,
+  halt,
+  fault,
+  reset,
+  redirect,
+  view,
+  cell,
+  text,
+  first_of,
+  checks,
+  refusal,
+  Answer,
+  refused,
+  shown_text,
+  show,
+  invitation_of,
+  reply,
+  answer,
+  buffer_after,
+}
 use Rattle.capability.specs.declared.Refusal.TheVariants.{ShortMemory}
 use Rattle.traces.specs.Texts.{Written, written}
 use Rattle.views.proofs.Shows.{entries_shown, order_shown}
-use Rattle.answers.specs.Bytes.{laying, number_bytes, optional, offer_bytes, stage_bytes, kind_bytes, wait_bytes, row_bytes, cell_bytes, station_bytes, claim_bytes, slot_bytes, text_bytes}
+use Rattle.answers.specs.Bytes.{
+  laying,
+  number_bytes,
+  optional,
+  offer_bytes,
+  stage_bytes,
+  kind_bytes,
+  wait_bytes,
+  row_bytes,
+  cell_bytes,
+  station_bytes,
+  claim_bytes,
+  slot_bytes,
+  text_bytes,
+}
 use Rattle.answers.specs.Encode.{encode, written_bytes}
 use Rattle.answers.specs.Size.{size_of_view, size, block}
 use Rattle.answers.proofs.Lengths.{optional-most, slot-length, stage-length, kind-length, station-length}

@@ -1,10 +1,50 @@
 -- An answer as bytes: the number that the call was refused with, or 0 and what was answered.
-use Rattle.std.specs.Prelude.{List, [], ◌∷◌, ℕ, Some, None, Ok, Err}
+use Rattle.std.specs.Prelude.{List, [], ◌∷◌, ℕ, Option, Some, None, Result, Ok, Err}
 use Rattle.std.specs.List.{flat_map}
-use Rattle.model.specs.Calls.{Answer, refused, done, offered, resolved, invitation, shown_status, shown_stats, shown_flag, shown_number, shown_stages, shown_edges, shown_stage, shown_unit, shown_trace, shown_row, shown_cell, shown_station, shown_rename, shown_slot, shown_text}
+use Rattle.model.specs.Calls.{
+  Answer,
+  refused,
+  done,
+  offered,
+  resolved,
+  invitation,
+  shown_status,
+  shown_stats,
+  shown_flag,
+  shown_number,
+  shown_stages,
+  shown_edges,
+  shown_stage,
+  shown_unit,
+  shown_trace,
+  shown_row,
+  shown_cell,
+  shown_station,
+  shown_rename,
+  shown_slot,
+  shown_text,
+}
+use Rattle.capability.specs.declared.Refusal.{Refusal}
 use Rattle.capability.specs.Refusals.{refusal_number}
 use Rattle.traces.specs.Texts.{Written}
-use Rattle.answers.specs.Bytes.{number_bytes, flag_byte, optional, offer_bytes, status_bytes, stats_bytes, edge_bytes, slot_bytes, stage_bytes, kind_bytes, wait_bytes, row_bytes, cell_bytes, station_bytes, claim_bytes, text_bytes}
+use Rattle.answers.specs.Bytes.{
+  number_bytes,
+  flag_byte,
+  optional,
+  offer_bytes,
+  status_bytes,
+  stats_bytes,
+  edge_bytes,
+  slot_bytes,
+  stage_bytes,
+  kind_bytes,
+  wait_bytes,
+  row_bytes,
+  cell_bytes,
+  station_bytes,
+  claim_bytes,
+  text_bytes,
+}
 
 unfoldable pub encode : Answer → List ℕ
 encode (refused n) = n ∷ []
@@ -28,13 +68,18 @@ encode (shown_rename o) = 0 ∷ optional claim_bytes o
 encode (shown_slot o) = 0 ∷ optional slot_bytes o
 encode (shown_text o) = 0 ∷ optional text_bytes o
 
+-- What a call that asks for something answers, by the bytes of what it asks for.
+unfoldable pub answer_bytes : {A : Type 0} → (A → List ℕ) → Result (Option A) Refusal → List ℕ
+answer_bytes f (Ok o) = 0 ∷ optional f o
+answer_bytes f (Err r) = refusal_number r ∷ []
+
 -- What stands before a text that was written behind it.
 unfoldable pub written_bytes : Written → List ℕ
 written_bytes (Ok (Some n)) = 0 ∷ 1 ∷ number_bytes n
 written_bytes (Ok None) = 0 ∷ 0 ∷ []
 written_bytes (Err r) = refusal_number r ∷ []
 
--- Both unfold where a line says `unfolding encoding`.
+-- All of these unfold where a line says `unfolding encoding`.
 unfoldable pub encoding : Unit {0}
-unfolding encode written_bytes
+unfolding encode answer_bytes written_bytes
 encoding = tt

@@ -1,13 +1,13 @@
 // The answers of driving calls, and what stands before a text.
 ghost use Rattle.std.specs.Prelude.{◌+◌, ◌≤◌, length};
 ghost use Rattle.traces.specs.Texts.{Laid};
-ghost use Rattle.engine.specs.View.{view_offer, view_answer};
+ghost use Rattle.engine.specs.View.{view_offer, done_answer};
 ghost use Rattle.answers.specs.Bytes.{offer_bytes};
-ghost use Rattle.answers.specs.Encode.{encode, written_bytes};
+ghost use Rattle.answers.specs.Encode.{encode, answer_bytes, written_bytes};
 
 use super::parts::{Put, class_byte, put_optional};
 use capability::Refusal;
-use engine::{Answer, OfferView};
+use engine::OfferView;
 use traces::texts;
 
 impl Put for OfferView {
@@ -35,31 +35,41 @@ impl Put for OfferView {
     }
 }
 
+// What was asked for, if it is there; a refusal by its number.
 // model: Calls.Answer
-#[tactic(auto, unfolding(crate::specs::Bytes::optional, crate::specs::Bytes::number_bytes, crate::specs::Bytes::offer_bytes, crate::specs::Encode::encode, engine::specs::View::view_answer))]
-pub fn put_answer(out: &mut [u8], at: usize, answer: Answer) -> usize
-    requires { at + length (encode (view_answer answer)) ≤ length out.old }
-    ensures { Laid at (encode (view_answer answer)) out.old out.new result }
+#[tactic(auto, unfolding(crate::specs::Encode::answer_bytes))]
+pub fn put_answer<T: Put + Drop>(
+    out: &mut [u8],
+    at: usize,
+    answer: Result<Option<T>, Refusal>,
+) -> usize
+    requires { at + (2 + T.SIZE) ≤ length out.old }
+    ensures { Laid at (answer_bytes T.bytes answer) out.old out.new result }
 {
     match answer {
-        Answer::Refused(no) => texts::put(out, at, &[no]),
-        Answer::Done => texts::put(out, at, &[0]),
-        Answer::Offered(v) => put_optional(out, at, Some(v)),
-        Answer::Resolved(t) | Answer::Invitation(t) => put_optional(out, at, Some(t)),
-        Answer::NoOffer | Answer::NotResolved | Answer::NoInvitation => {
-            texts::put(out, at, &[0, 0])
-        }
+        Ok(value) => put_optional(out, at, value),
+        Err(refusal) => texts::put(out, at, &[u8::from(refusal)]),
+    }
+}
+
+// Done, or a refusal by its number.
+// model: Calls.Answer
+#[tactic(auto, unfolding(crate::specs::Encode::encode, engine::specs::View::answer_by))]
+pub fn put_done(out: &mut [u8], at: usize, answer: Result<(), Refusal>) -> usize
+    requires { at + 1 ≤ length out.old }
+    ensures { Laid at (encode (done_answer answer)) out.old out.new result }
+{
+    match answer {
+        Ok(()) => texts::put(out, at, &[0]),
+        Err(no) => texts::put(out, at, &[u8::from(no)]),
     }
 }
 
 // What stands before a text that was written behind it.
-#[tactic(auto, unfolding(crate::specs::Bytes::optional, crate::specs::Encode::written_bytes))]
+#[tactic(auto, unfolding(crate::specs::Bytes::optional, crate::specs::Encode::answer_bytes, crate::specs::Encode::written_bytes))]
 pub fn put_written(out: &mut [u8], at: usize, written: Result<Option<usize>, Refusal>) -> usize
     requires { at + 10 ≤ length out.old }
     ensures { Laid at (written_bytes written) out.old out.new result }
 {
-    match written {
-        Ok(size) => put_optional(out, at, size.map(|n| n as u64)),
-        Err(refusal) => texts::put(out, at, &[u8::from(refusal)]),
-    }
+    put_answer(out, at, written.map(|size| size.map(|n| n as u64)))
 }

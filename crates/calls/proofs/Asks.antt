@@ -4,7 +4,23 @@ use mathlib.Core.Path.{◌≡◌, sym, ap, ap₂, ◌∙◌}
 use mathlib.Core.List.{List, [], ◌∷◌}
 use lib.ListN.{length, get_or}
 use Rattle.model.specs.State.{State}
-use Rattle.model.specs.Requests.{Place, in_queue, in_station, in_stage, in_unit, on_offer, Field, disassembly, destination, fault, source, write, Request, status_message, text_at}
+use Rattle.model.specs.Requests.{
+  Place,
+  in_queue,
+  in_station,
+  in_stage,
+  in_unit,
+  on_offer,
+  Field,
+  disassembly,
+  destination,
+  fault,
+  source,
+  write,
+  Request,
+  status_message,
+  text_at,
+}
 use Rattle.model.specs.Calls.{buffer_after}
 use Rattle.traces.specs.Texts.{Written, written}
 use Rattle.decoding.specs.Bytes.{byte_at, number_at}

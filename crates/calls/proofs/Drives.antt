@@ -1,54 +1,89 @@
--- A call of the engine, as the call that stands at a place; and the cell memory, of which it is lent the first bytes or none.
-use Prim.Native.Nat.{ℕ, ◌≤◌}
-use mathlib.Core.Path.{◌≡◌, refl, sym, ap, ap₂, subst, ◌∙◌}
-use mathlib.Core.List.{List, [], ◌∷◌, ◌++◌}
-use native.Mathlib.Omega.{arith}
-use lib.ListN.{length, take, drop, get_or}
-use lib.Seq.{length-take-le}
+-- A call of the engine, whose answer is laid, as the call that stands at a place.
+use Prim.Native.Nat.{ℕ}
+use mathlib.Core.Path.{◌≡◌, refl, sym, ap, subst, ◌∙◌}
+use Rattle.std.specs.Prelude.{Option, None, Some, Result, Ok, Err}
+use mathlib.Core.Bool.{false}
+use mathlib.Core.List.{List, [], ◌++◌}
+use lib.ListN.{length, get_or}
+use Rattle.laws.specs.Optional.{when_some}
+use Rattle.capability.specs.declared.Refusal.{Refusal}
+use Rattle.model.specs.Timeline.{splice, write_all}
 use Rattle.model.specs.State.{State}
-use Rattle.model.specs.Calls.{Call, answer, memory_after}
-use Rattle.engine.specs.Engine.{Engine, Next}
-use Rattle.engine.specs.View.{view_engine}
-use Rattle.engine.specs.Calls.{Does}
-use Rattle.engine.proofs.Does.{same_size}
+use Rattle.model.specs.Calls.{Call, Answer, refusal, sets, answer, memory_after}
+use Rattle.traces.specs.Texts.{Laid}
+use Rattle.engine.specs.declared.OfferView.{OfferView}
+use Rattle.engine.specs.View.{view_offer, answer_by, done_answer, offer_answer, target_answer, invitation_answer}
+use Rattle.scoreboard.specs.declared.ScoreboardPipeline.{ScoreboardPipeline}
+use Rattle.scoreboard.specs.View.{pipeline, view_engine}
+use Rattle.scoreboard.specs.Calls.{Does}
 use Rattle.decoding.specs.Bytes.{byte_at}
 use Rattle.decoding.specs.Calls.{drives, shows, text_call, call_at}
-use Rattle.calls.specs.Play.{lent_of, lend, cells_after}
+use Rattle.answers.specs.Bytes.{number_bytes, optional, offer_bytes}
+use Rattle.answers.specs.Encode.{encode, answer_bytes}
+use Rattle.calls.specs.Steps.{shows_only, Plays}
 use Rattle.calls.proofs.Which.{call-is}
 
--- One that is lent none leaves the cell memory as it is.
-pub kept : (s : State) (c : Call) (m : List ℕ) → lent_of c ≡ 0 → m ≡ cells_after s c m
-unfolding cells_after lend
-kept s c m e = ap (λ t. t ++ m) (sym (none (memory_after s c []) (same_size s c [] refl))) ∙ ap (λ n. memory_after s c (take n m) ++ drop n m) (sym e)
+-- ── The bytes of what was asked for ─────────────────────────────────────────
+
+pub offer_told : (r : Result (Option OfferView) Refusal) → answer_bytes (λ v. offer_bytes (view_offer v)) r ≡ encode (offer_answer r)
+unfolding answer_bytes encode optional answer_by
+offer_told (Ok None) = refl
+offer_told (Ok (Some v)) = refl
+offer_told (Err r) = refl
+
+module _ (r : Result (Option ℕ) Refusal) where
+  pub target_told : answer_bytes number_bytes r ≡ encode (target_answer r)
+  unfolding answer_bytes encode answer_by
+  target_told = go r
+    where
+      go : (r : Result (Option ℕ) Refusal) → answer_bytes number_bytes r ≡ encode (target_answer r)
+      go (Ok o) = refl
+      go (Err r) = refl
+
+  pub invitation_told : answer_bytes number_bytes r ≡ encode (invitation_answer r)
+  unfolding answer_bytes encode answer_by
+  invitation_told = go r
+    where
+      go : (r : Result (Option ℕ) Refusal) → answer_bytes number_bytes r ≡ encode (invitation_answer r)
+      go (Ok o) = refl
+      go (Err r) = refl
+
+-- A number as an answer takes one byte.
+pub done_size : (r : Result Unit Refusal) → length (encode (done_answer r)) ≡ 1
+unfolding encode answer_by
+done_size (Ok u) = refl
+done_size (Err r) = refl
+
+-- ── The call ────────────────────────────────────────────────────────────────
+
+-- It sets no byte of the cell memory.
+pub stays : (s : State) (c : Call) (m : List ℕ) → sets s c ≡ [] → m ≡ memory_after s c m
+unfolding memory_after write_all
+stays s c m e = go (refusal s c)
   where
-    none : (t : List ℕ) → length t ≡ length {A = ℕ} [] → t ≡ []
-    none [] h = refl
-    none (x ∷ t) h = absurd (omega arith)
+    go : (o : Option ℕ) → m ≡ when_some o (write_all (sets s c) m) (λ (n : ℕ). m)
+    go None = sym (ap (λ w. write_all w m) e)
+    go (Some n) = refl
 
 -- d is the call that was done; the byte is k.
 module _ (l : List ℕ) (at : ℕ) {k : ℕ} (e : byte_at l at ≡ k) {d : Call} (p : d ≡ get_or (drives ++ shows) k text_call l at) where
   is : d ≡ call_at l at
   is = p ∙ sym (call-is l at e)
 
-  pub done_at : {x : Engine} {r : Next} → Does x d r → Does x (call_at l at) r
-  done_at {x} {r} h = subst (λ c. Does x c r) is h
+  -- `bytes` are those of its answer, a.
+  pub plays : {x y : ScoreboardPipeline} {a : Answer} {b n : ℕ} {bytes m m' out out' : List ℕ} → Does x d a y → m' ≡ memory_after (view_engine x) d m
+      → bytes ≡ encode a → Laid b bytes out out' n → shows_only d ≡ false → Plays (call_at l at) b x m out y m' out'
+  plays {x} {y} {b = b} {m = m} {m'} {out} {out'} h r q z k =
+      let laid = z.is ∙ ap (λ t. splice b t out) (q ∙ ap encode (h.answer m)) in
+      subst (λ c. Plays c b x m out y m' out') is
+      (record {
+        engine = h.engine;
+        valid = h.valid;
+        refused = λ n q. ap pipeline (h.refused n q);
+        shown = λ t. cc;
+        memory = r;
+        answer = laid;
+      })
 
-  -- It is lent none.
-  pub none-at : {x : Engine} {r : Next} (m : List ℕ) → lent_of d ≡ 0 → Does x d r
-      → Does x (call_at l at) r × (m ≡ cells_after (view_engine x) (call_at l at) m)
-  none-at {x} m q y = (done_at y, kept (view_engine x) (call_at l at) m (sym (ap lent_of is) ∙ q))
-
-  -- It is lent the first n bytes of m.
-  module _ (m : List ℕ) {n : ℕ} (h : n ≤ length m) (q : lent_of d ≡ length (take n m)) where
-    size : n ≡ lent_of (call_at l at)
-    size = sym (length-take-le n m h) ∙ sym q ∙ ap lent_of is
-
-    -- It left `part` of them.
-    pub lent_at : {x : Engine} {r : Next} {part : List ℕ} → Does x d r × (part ≡ memory_after (view_engine x) d (take n m))
-        → Does x (call_at l at) r × (part ++ drop n m ≡ cells_after (view_engine x) (call_at l at) m)
-    unfolding cells_after lend
-    lent_at {x} y =
-        (done_at y.0, ap₂ ◌++◌ (y.1 ∙ ap₂ (λ c j. memory_after (view_engine x) c (take j m)) is size) (ap (λ j. drop j m) size))
-
-    pub answer_at : (s : State) → answer s (take (lent_of (call_at l at)) m) (call_at l at) ≡ answer s (take n m) d
-    answer_at s = sym (ap₂ (λ c j. answer s (take j m) c) is size)
+  pub answers-at : (s : State) (m : List ℕ) → answer s m (call_at l at) ≡ answer s m d
+  answers-at s m = ap (answer s m) (sym is)

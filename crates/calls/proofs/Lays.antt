@@ -15,7 +15,7 @@ use Rattle.answers.specs.Size.{size, block}
 use Rattle.answers.proofs.Lengths.{pad-length}
 use Rattle.answers.proofs.Sizes.{refused-fits, block-laid}
 use Rattle.calls.specs.Play.{all_sizes, refused_blocks}
-use Rattle.calls.specs.Steps.{from, good, Laying}
+use Rattle.calls.specs.Steps.{from, good}
 
 splice-none : (p : ℕ) (m : List ℕ) → splice p [] m ≡ m
 unfolding splice overlay
@@ -23,11 +23,18 @@ splice-none zero m = refl
 splice-none (suc p) [] = refl
 splice-none (suc p) (x ∷ m) = ap (λ t. x ∷ t) (splice-none p m)
 
-pub laying-first : (l all out : List ℕ) {at b : ℕ} → good l at ≡ true → b + all_sizes (from l at) ≤ length out → Laying l b all all out out at b
+-- `all` is to stand from byte 17 on; `rest` of it is left for b on.
+pub record Laying (l all rest out₀ out : List ℕ) (at b : ℕ) : Type 0 where
+  pub formed : good l at ≡ true
+  pub room : b + all_sizes (from l at) ≤ length out
+  pub same : length out ≡ length out₀
+  pub is : splice b rest out ≡ splice 17 all out₀
+
+pub laying-first : (l all out : List ℕ) → good l 555 ≡ true → 17 + all_sizes (from l 555) ≤ length out → Laying l all all out out 555 17
 laying-first l all out g h = record { formed = g; room = h; same = refl; is = refl }
 
-module _ {l all rest out₀ out : List ℕ} {b₀ at b : ℕ} (y : Laying l b₀ all rest out₀ out at b) where
-  pub laying-last : rest ≡ [] → out ≡ splice b₀ all out₀
+module _ {l all rest out₀ out : List ℕ} {at b : ℕ} (y : Laying l all rest out₀ out at b) where
+  pub laying-last : rest ≡ [] → out ≡ splice 17 all out₀
   laying-last e = sym (splice-none b out) ∙ ap (λ t. splice b t out) (sym e) ∙ y.is
 
   module _ (h : at < length l) where
@@ -54,7 +61,7 @@ module _ {l all rest out₀ out : List ℕ} {b₀ at b : ℕ} (y : Laying l b₀
     -- An answer is laid over as many bytes of 0 as it takes.
     pub laying-next : {n k : ℕ} {filled out' more : List ℕ} (a : Answer) → n ≡ size (call_at l at) → k ≡ size_at l at
         → length (encode a) ≤ size (call_at l at) → rest ≡ block (call_at l at) a ++ more → filled ≡ splice b (replicate n 0) out
-        → out' ≡ splice b (encode a) filled → Laying l b₀ all more out₀ out' (at + k) (b + n)
+        → out' ≡ splice b (encode a) filled → Laying l all more out₀ out' (at + k) (b + n)
     unfolding block
     laying-next {n} {k} {filled} {out'} {more} a p q fits r f o =
         let c = call_at l at in
@@ -77,16 +84,16 @@ module _ {l all rest out₀ out : List ℕ} {b₀ at b : ℕ} (y : Laying l b₀
 -- ── Where making was refused ────────────────────────────────────────────────
 
 abbrev pub Refusing : List ℕ → ℕ → List ℕ → List ℕ → ℕ → ℕ → Type 0
-Refusing l x out₀ out at b = Laying l 17 (refused_blocks x (from l 555)) (refused_blocks x (from l at)) out₀ out at b
+Refusing l x out₀ out at b = Laying l (refused_blocks x (from l 555)) (refused_blocks x (from l at)) out₀ out at b
 
 module _ (x : ℕ) {l out₀ out : List ℕ} {at b : ℕ} (y : Refusing l x out₀ out at b) where
-  pub refusing-next : {n k : ℕ} {filled : List ℕ} → at < length l → n ≡ size (call_at l at) → k ≡ size_at l at
-      → filled ≡ splice b (replicate n 0) out → Refusing l x out₀ (set filled b x) (at + k) (b + n)
+  pub refusing-next : {n k v : ℕ} {filled : List ℕ} → v ≡ x → at < length l → n ≡ size (call_at l at) → k ≡ size_at l at
+      → filled ≡ splice b (replicate n 0) out → Refusing l x out₀ (set filled b v) (at + k) (b + n)
   unfolding refused_blocks encode
-  refusing-next {filled = filled} h p q f =
+  refusing-next {filled = filled} i h p q f =
       let more = ap (λ j. from l (at + j)) (sym q) in
       laying-next y h (refused x) p q (refused-fits x (call_at l at))
-      (ap (refused_blocks x) (laying-call y h ∙ ap (λ t. call_at l at ∷ t) more)) f (sym (splice-set b x filled))
+      (ap (refused_blocks x) (laying-call y h ∙ ap (λ t. call_at l at ∷ t) more)) f (ap (set filled b) i ∙ sym (splice-set b x filled))
 
   pub refusing-last : length l ≤ at → out ≡ splice 17 (refused_blocks x (from l 555)) out₀
   unfolding refused_blocks

@@ -7,6 +7,5 @@ pub mod Tells
 pub mod Scans
 pub mod Lays
 pub mod Plays
-pub mod Cycling
 pub mod Scripts
 pub mod Outcomes

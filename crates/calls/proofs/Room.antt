@@ -11,12 +11,20 @@ use lib.ListN.{take, drop}
 use Rattle.laws.specs.Lists.{All}
 use Rattle.laws.proofs.Slices.{All-get_or, All-append}
 use Rattle.laws.proofs.Tests.{and_both, lt-or-ge}
+use Rattle.model.specs.Calls.{Call}
 use Rattle.decoding.specs.Bytes.{byte_at}
 use Rattle.decoding.specs.Calls.{size_at, room_at, text_call, call_at, formed_at}
 use Rattle.decoding.proofs.Sizes.{text_size, parts-text}
 use Rattle.decoding.proofs.Script.{formed-is}
+use Rattle.answers.specs.Encode.{encode}
 use Rattle.answers.specs.Size.{size_of_view, size}
+use Rattle.answers.proofs.Sizes.{refused-fits}
 use Rattle.calls.proofs.Which.{told, told_below, told_text, known}
+
+-- An answer takes one byte or more.
+pub size_least : (c : Call) → 1 ≤ size c
+unfolding encode
+size_least c = refused-fits 0 c
 
 module _ (l : List ℕ) (at : ℕ) where
   -- A text's answer has ten bytes before its room.

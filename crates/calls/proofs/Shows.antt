@@ -3,7 +3,7 @@ use Prim.Native.Nat.{ℕ, ◌+◌, ◌-◌, ◌≤◌, ◌<◌}
 use mathlib.Core.Path.{◌≡◌, refl, sym, ap, subst, ◌∙◌}
 use mathlib.Core.List.{List, [], ◌++◌, map}
 use native.Mathlib.Omega.{arith}
-use lib.ListN.{length, get_or, take, drop, get_or-append, get_or-map}
+use lib.ListN.{length, get_or, drop, get_or-append, get_or-map}
 use lib.Seq.{get_or-drop}
 use Rattle.model.specs.State.{State}
 use Rattle.model.specs.Calls.{View, status, in_flight_before, Call, view, Answer, show, first_of, checks, refusal, reply, answer}
@@ -14,7 +14,6 @@ use Rattle.answers.specs.Encode.{encode}
 use Rattle.answers.specs.Size.{size_of_view, size}
 use Rattle.answers.proofs.Laid.{laid_of}
 use Rattle.answers.proofs.Sizes.{answer-fits}
-use Rattle.calls.specs.Play.{lent_of}
 use Rattle.calls.proofs.Which.{told, told_below}
 
 -- ── The view of a tag ───────────────────────────────────────────────────────
@@ -75,9 +74,9 @@ module _ (l : List ℕ) (at : ℕ) where
       ∙ ap (λ j. view (get_or indexed_views (byte_at l at - 29) in_flight_before j)) (sym n)
 
   pub view-laid : (s : State) (m : List ℕ) {v : View} {b n : ℕ} {out₀ out : List ℕ} → call_at l at ≡ view v
-      → Laid b (encode (show s v)) out₀ out n → Laid b (encode (answer s (take (lent_of (call_at l at)) m) (call_at l at))) out₀ out n
+      → Laid b (encode (show s v)) out₀ out n → Laid b (encode (answer s m (call_at l at))) out₀ out n
   view-laid s m {v} e y =
-      laid_of encode (ap (λ c. answer s (take (lent_of c) m) c) e ∙ view-answer s (take (lent_of (view v)) m) v) y
+      laid_of encode (ap (answer s m) e ∙ view-answer s m v) y
 
 -- A call's room, as the room of another that is the same.
 pub room-is : {c d : Call} (b n : ℕ) → c ≡ d → b + size c ≤ n → b + size d ≤ n

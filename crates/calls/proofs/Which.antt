@@ -5,13 +5,11 @@ use mathlib.Core.Bool.{true}
 use mathlib.Core.Logic.{⊎_elim}
 use mathlib.Core.List.{List, ◌++◌, map}
 use native.Mathlib.Omega.{arith}
-use borrow.Author.Tests.{le-ltb, ltb-true, eqb-true, ne_eqb}
-use lib.Dec.{ltb}
 use lib.ListN.{length, get_or, set, drop, replicate, get_or-map, get_or-eq_default, get_or-replicate}
 use lib.Seq.{get_or-drop, get_or-set_other}
 use Rattle.laws.specs.Lists.{All}
 use Rattle.laws.proofs.Slices.{get_d_any, All-get_or}
-use Rattle.laws.proofs.Tests.{lt-or-ge, and_both, or-next}
+use Rattle.laws.proofs.Tests.{lt-or-ge}
 use Rattle.model.specs.Requests.{status_message}
 use Rattle.model.specs.Calls.{Call}
 use Rattle.decoding.specs.Bytes.{byte_at, number_at}
@@ -19,7 +17,6 @@ use Rattle.decoding.specs.Calls.{Reader, sizes, size_at, drives, shows, asks, re
 use Rattle.decoding.proofs.Sizes.{size-by, call_known}
 use Rattle.decoding.proofs.Script.{formed-is}
 use Rattle.calls.specs.Play.{lent_of}
-use Rattle.calls.specs.Steps.{of_cycle, cycle_at}
 
 -- ── What is told of it ──────────────────────────────────────────────────────
 
@@ -114,18 +111,3 @@ module _ (l : List ℕ) (at : ℕ) where
       ∙ get_or-replicate 39 (byte_at l at) 0 0 h)
       lent-text
       (lt-or-ge (byte_at l at) 39)
-
--- ── The calls of a cycle ────────────────────────────────────────────────────
-
-module _ (l : List ℕ) (at : ℕ) (e : cycle_at l at ≡ true) where
-  pub cycle-there : at < length l
-  unfolding cycle_at
-  cycle-there = ltb-true at (length l) (and_both (ltb at (length l)) _ e).0
-
-  -- The last of them.
-  pub cycle-advance : (byte_at l at ≡ 5 → ⊥) → (byte_at l at ≡ 0 → ⊥) → (byte_at l at ≡ 1 → ⊥) → byte_at l at ≡ 4
-  unfolding cycle_at of_cycle
-  cycle-advance a b c =
-      let k = byte_at l at in
-      eqb-true k 4
-      (sym (or-next _ (le-ltb k 2 (omega arith)) ∙ or-next _ (ne_eqb k 5 a)) ∙ (and_both (ltb at (length l)) _ e).1)

@@ -3,7 +3,30 @@ use Rattle.std.specs.Prelude.{ℕ, ◌+◌, max, Bool, cond, ◌||◌, List, [],
 use Rattle.laws.specs.Optional.{when_some}
 use Rattle.model.specs.Timeline.{splice}
 use Rattle.model.specs.State.{State, new}
-use Rattle.model.specs.Calls.{Call, start, retire, retry, resolve, advance, fetch, capacity, overlap, halt, fault, reset, redirect, view, cell, text, refused, make_refusal, make_memory, answer, after, memory_after}
+use Rattle.model.specs.Calls.{
+  Call,
+  start,
+  retire,
+  retry,
+  resolve,
+  advance,
+  fetch,
+  capacity,
+  overlap,
+  halt,
+  fault,
+  reset,
+  redirect,
+  view,
+  cell,
+  text,
+  refused,
+  make_refusal,
+  make_memory,
+  answer,
+  after,
+  memory_after,
+}
 use Rattle.decoding.specs.Script.{Script, decode}
 use Rattle.answers.specs.Bytes.{number_bytes}
 use Rattle.answers.specs.Size.{size, block}

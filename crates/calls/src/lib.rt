@@ -2,34 +2,35 @@
 #![tactic(auto)]
 
 use answers::parts::Put;
-use cycles::{cycle_at, play_cycles};
+use answers::replies::put_done;
+use capability::Refusal;
 use decoding::machine::shape_at;
 use decoding::parts::number_at;
 use decoding::records::{formed, size_of};
-use engine::Answer;
 use measures::{answer_size, blank, lent_at};
 use scoreboard::ScoreboardPipeline;
 
 // How much room a call takes.
 pub mod measures;
-// The calls of a cycle, one after the other.
-pub mod cycles;
 // The calls that drive the engine, one at a time.
 pub mod driven;
 // The views.
 pub mod shown;
 // The texts.
 pub mod texts;
-// The answer to a call.
+// Any call.
 pub mod one;
 
-ghost use Rattle.std.specs.Prelude.{◌≡◌, true, ◌∷◌, ◌++◌, ◌+◌, ◌≤◌, length};
+ghost use Rattle.std.specs.Prelude.{◌≡◌, true, ◌++◌, ◌+◌, ◌≤◌, length};
 ghost use Rattle.model.specs.Timeline.{splice};
 ghost use Rattle.scoreboard.specs.View.{view_engine};
 ghost use Rattle.scoreboard.specs.Valid.{Valid};
 ghost use Rattle.decoding.specs.Machine.{machine_formed};
 ghost use Rattle.decoding.specs.Script.{calls_at, all_formed, script_of, decode};
+ghost use Rattle.capability.specs.Refusals.{refusal_number};
+ghost use Rattle.engine.specs.View.{done_answer};
 ghost use Rattle.answers.specs.Bytes.{number_bytes};
+ghost use Rattle.answers.specs.Encode.{encode};
 ghost use Rattle.calls.specs.Play.{all_sizes, blocks, cells_played, refused_blocks, script_answers, script_cells, play_answer, play_cells, play_out};
 ghost use Rattle.calls.specs.Tally.{tally, tally_of};
 ghost use Rattle.calls.specs.Steps.{AllPlayable};
@@ -76,20 +77,20 @@ fn scan(list: &[u8]) -> Option<Tally>
 }
 
 // The first 17 bytes.
-fn put_header(out: &mut [u8], no: u8, calls: u64, bytes: u64)
+fn put_header(out: &mut [u8], made: Result<(), Refusal>, t: Tally)
     requires { 17 ≤ length out.old }
-    ensures { out.new ≡ splice 0 (no ∷ (number_bytes calls ++ number_bytes bytes)) out.old }
+    ensures { out.new ≡ splice 0 (encode (done_answer made) ++ (number_bytes t.calls ++ number_bytes t.bytes)) out.old }
 {
-    let a = no.put(out, 0);
-    let b = calls.put(out, a);
-    bytes.put(out, b);
+    let a = put_done(out, 0, made);
+    let b = t.calls.put(out, a);
+    t.bytes.put(out, b);
 }
 
 // Where making was refused: each call answers its number.
-fn refuse_calls(list: &[u8], out: &mut [u8], no: u8)
+fn refuse_calls(list: &[u8], out: &mut [u8], refusal: Refusal)
     requires list_value { all_formed (length list.now) list.now 555 ≡ true }
     requires list_in_bounds { 17 + all_sizes (calls_at (length list.now) list.now 555) ≤ length out.old }
-    ensures { out.new ≡ splice 17 (refused_blocks no (calls_at (length list.now) list.now 555)) out.old }
+    ensures { out.new ≡ splice 17 (refused_blocks (refusal_number refusal) (calls_at (length list.now) list.now 555)) out.old }
 {
     let mut at: usize = 555;
     let mut b: usize = 17;
@@ -97,42 +98,30 @@ fn refuse_calls(list: &[u8], out: &mut [u8], no: u8)
     while at < list.len() {
         let n = answer_size(list, at);
         blank(out, b, n);
-        out[b] = no;
+        out[b] = u8::from(refusal);
         b += n;
         at += size_of(list[at]);
     }
 }
 
-// All calls, each on the engine and the cell memory that the last one left. Where the calls of a cycle stop, the next call is played by itself, so that
-// each turn passes at least one.
-fn play_calls(engine: ScoreboardPipeline, list: &[u8], cells: &mut [u8], out: &mut [u8])
-    requires valid { Valid engine }
+// All calls, each on the engine and the cell memory that the last one left.
+fn play_calls(engine: &mut ScoreboardPipeline, list: &[u8], cells: &mut [u8], out: &mut [u8])
+    requires valid { Valid engine.old }
     requires all_playable { AllPlayable list.now cells.old out.old }
-    ensures memory { cells.new ≡ cells_played (view_engine engine) cells.old (calls_at (length list.now) list.now 555) }
-    ensures answers { out.new ≡ splice 17 (blocks (view_engine engine) cells.old (calls_at (length list.now) list.now 555)) out.old }
+    ensures valid { Valid engine.new }
+    ensures memory { cells.new ≡ cells_played (view_engine engine.old) cells.old (calls_at (length list.now) list.now 555) }
+    ensures answers { out.new ≡ splice 17 (blocks (view_engine engine.old) cells.old (calls_at (length list.now) list.now 555)) out.old }
 {
-    let mut e = engine;
     let mut at: usize = 555;
     let mut b: usize = 17;
-    // Kept: each turn passes calls of their own size.
+    // Kept: each turn passes a call of its own size.
     while at < list.len() {
-        if cycle_at(list, at) {
-            let r = play_cycles(e, list, at, cells, out, b);
-            e = r.engine;
-            at = r.at;
-            b = r.b;
-        }
-        if at < list.len() {
-            let n = answer_size(list, at);
-            blank(out, b, n);
-            if list[at] < 12 {
-                e = one::play_driven(e, list, at, cells, out, b);
-            } else {
-                one::play_shown(&e, list, at, cells, out, b);
-            }
-            b += n;
-            at += size_of(list[at]);
-        }
+        let n = answer_size(list, at);
+        blank(out, b, n);
+        let lent = lent_at(list, at) as usize;
+        one::play(engine, list, at, &mut cells[..lent], out, b);
+        b += n;
+        at += size_of(list[at]);
     }
 }
 
@@ -148,15 +137,14 @@ fn play_script(list: &[u8], cells: &mut [u8], out: &mut [u8], t: Tally)
     let shape = shape_at(list);
     let entry = number_at(list, 65);
     let n = number_at(list, 81) as usize;
-    let made = ScoreboardPipeline::new(shape, entry, &mut cells[..n]);
-    match made.answer {
-        Answer::Refused(no) => {
-            put_header(out, no, t.calls, t.bytes);
-            refuse_calls(list, out, no);
+    match ScoreboardPipeline::new(&shape, entry, &mut cells[..n]) {
+        Err(refusal) => {
+            put_header(out, Err(refusal), t);
+            refuse_calls(list, out, refusal);
         }
-        _ => {
-            put_header(out, 0, t.calls, t.bytes);
-            play_calls(made.engine, list, cells, out);
+        Ok(mut engine) => {
+            put_header(out, Ok(()), t);
+            play_calls(&mut engine, list, cells, out);
         }
     }
 }

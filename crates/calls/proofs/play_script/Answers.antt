@@ -1,9 +1,8 @@
 -- Making, the header, and then the calls or a refusal of each.
 use native.Mathlib.Omega.{arith}
-use borrow.Author.Rules.{rules}
 use lib.Seq.{length-take-le}
 use Rattle.decoding.specs.Machine.{making_lent, entry_at}
-use Rattle.calls.proofs.Scripts.{roomy, header-room, making, refused-cells, refused-out, done-playable, done-cells, done-out}
+use Rattle.calls.proofs.Scripts.{roomy, header-room, making, refused-cells, refused-out, done-valid, done-playable, done-cells, done-out}
 use Rattle.calls.proofs.play_script.Goals as goal
 
 pub shape_at-shape-requires : goal.shape_at-shape-requires
@@ -50,8 +49,8 @@ refuse_calls-requires c =
     let r = roomy q.list_value q.t_value q.lent_in_bounds q.bytes_in_bounds in
     record { list_value = r.formed; list_in_bounds = header-room r _ c.put_header.ensures }
 
-pub put_header-requires-in_default : goal.put_header-requires-in_default
-put_header-requires-in_default c =
+pub put_header-requires-in-Ok : goal.put_header-requires-in-Ok
+put_header-requires-in-Ok c =
     let q = c.requires in
     let r = roomy q.list_value q.t_value q.lent_in_bounds q.bytes_in_bounds in
     omega (arith, r.room)
@@ -61,25 +60,26 @@ unfolding making_lent entry_at
 play_calls-requires c =
     let q = c.requires in
     let r = roomy q.list_value q.t_value q.lent_in_bounds q.bytes_in_bounds in
-    let m = making r c.shape_at-shape.ensures c.number_at-entry.ensures c.number_at-n.ensures c.new-made.ensures.made c.new-made.ensures.memory in
-    record { valid = m.makes.valid; all_playable = done-playable r m c.put_header-in_default.ensures }
+    let m = making r c.shape_at-shape.ensures c.number_at-entry.ensures c.number_at-n.ensures c.new.ensures.made c.new.ensures.memory in
+    record { valid = done-valid r m c.in-Ok.is; all_playable = done-playable r m c.put_header-in-Ok.ensures }
 
-pub returns-in-Refused : goal.returns-in-Refused
+pub returns-in-Err : goal.returns-in-Err
 unfolding making_lent entry_at
-returns-in-Refused c =
+returns-in-Err c =
     let q = c.requires in
     let r = roomy q.list_value q.t_value q.lent_in_bounds q.bytes_in_bounds in
-    let m = making r c.shape_at-shape.ensures c.number_at-entry.ensures c.number_at-n.ensures c.new-made.ensures.made c.new-made.ensures.memory in
-    let k = c.in-Refused.is in
+    let m = making r c.shape_at-shape.ensures c.number_at-entry.ensures c.number_at-n.ensures c.new.ensures.made c.new.ensures.memory in
+    let k = c.in-Err.is in
     record { memory = refused-cells r m k; answers = refused-out r m k c.put_header.ensures c.refuse_calls.ensures }
 
-pub returns-in_default : goal.returns-in_default
+pub returns-in-Ok : goal.returns-in-Ok
 unfolding making_lent entry_at
-returns-in_default c =
+returns-in-Ok c =
     let q = c.requires in
     let r = roomy q.list_value q.t_value q.lent_in_bounds q.bytes_in_bounds in
-    let m = making r c.shape_at-shape.ensures c.number_at-entry.ensures c.number_at-n.ensures c.new-made.ensures.made c.new-made.ensures.memory in
+    let m = making r c.shape_at-shape.ensures c.number_at-entry.ensures c.number_at-n.ensures c.new.ensures.made c.new.ensures.memory in
+    let k = c.in-Ok.is in
     record {
-      memory = done-cells r m (search rules) c.play_calls.ensures.memory;
-      answers = done-out r m (search rules) c.put_header-in_default.ensures c.play_calls.ensures.answers;
+      memory = done-cells r m k c.play_calls.ensures.memory;
+      answers = done-out r m k c.put_header-in-Ok.ensures c.play_calls.ensures.answers;
     }

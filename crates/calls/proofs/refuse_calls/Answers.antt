@@ -29,7 +29,7 @@ loop-at-smaller c = let f = formed-is _ _ (laying-formed c.loop-at.invariant c.l
 
 pub loop-at-preserved : goal.loop-at-preserved
 unfolding size_at byte_at
-loop-at-preserved c = refusing-next _ c.loop-at.invariant c.loop-at-test.true c.answer_size-n.ensures c.size_of-at.ensures c.blank.ensures
+loop-at-preserved c = refusing-next _ c.loop-at.invariant c.from.ensures c.loop-at-test.true c.answer_size-n.ensures c.size_of-at.ensures c.blank.ensures
 
 pub returns : goal.returns
 returns c = refusing-last _ c.loop-at.invariant c.loop-at-test.false

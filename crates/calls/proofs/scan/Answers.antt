@@ -3,7 +3,10 @@ use Rattle.std.proofs.Common.{sym, ◌∙◌, ap, not}
 use borrow.Author.Tests.{not-true}
 use Rattle.calls.proofs.Scans.{decode-none, too_long, no_machine}
 use Rattle.calls.proofs.scan.Goals as goal
-use Rattle.calls.proofs.scan.Goals.{then-list-gt16777216-via-then-list-gt16777216 as long, then-list-gt16777216-via-else-list-gt16777216+then-not-machine_formed as bad}
+use Rattle.calls.proofs.scan.Goals.{
+  then-list-gt16777216-via-then-list-gt16777216 as long,
+  then-list-gt16777216-via-else-list-gt16777216+then-not-machine_formed as bad,
+}
 
 pub returns-then-list-gt16777216 : goal.returns-then-list-gt16777216
 returns-then-list-gt16777216 c =

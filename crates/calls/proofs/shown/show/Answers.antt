@@ -3,7 +3,7 @@ use native.Mathlib.Omega.{arith}
 use lib.ListN.{get_or}
 use Rattle.decoding.specs.Bytes.{byte_at}
 use Rattle.answers.specs.Size.{size}
-use Rattle.calls.proofs.Which.{call-is, here, number-there}
+use Rattle.calls.proofs.Which.{here, number-there}
 use Rattle.calls.proofs.Shows.{plain_at, indexed-at, view-laid, room-is}
 use Rattle.calls.proofs.shown.show.Goals as goal
 
@@ -21,11 +21,8 @@ unfolding byte_at
 returns-then-tag-lt29 c = view-laid _ _ _ _ (plain_at _ _ c.requires.bound c.if-tag-lt29.true) c.show_plain.ensures
 
 pub show_cell-requires : goal.show_cell-requires
-unfolding byte_at size
-show_cell-requires c =
-    let p = c.requires.playable in
-    let k = c.if-tag-eq38.true in
-    record { valid = c.requires.valid; at_value = p.formed; at_in_bounds = p.lent; at_value_2 = k; b_in_bounds = room-is _ _ (call-is _ _ k) p.room }
+unfolding byte_at
+show_cell-requires c = record { valid = c.requires.valid; playable = c.requires.playable; at_value = c.if-tag-eq38.true }
 
 pub number_at-index-requires : goal.number_at-index-requires
 unfolding byte_at
