@@ -12,7 +12,7 @@ use capability::{PipelineHazardKind, PipelineStats};
 fn up(counter: &mut u64)
     ensures { counter.new ≡ saturating_add counter.old 1 }
 {
-    *counter = counter.saturating_add(1);
+    *counter = capability::saturating_add(*counter, 1);
 }
 
 // model: State.count_cycle
@@ -36,8 +36,8 @@ pub fn count_retired(stats: &mut PipelineStats, branch: bool)
 pub fn count_flush(stats: &mut PipelineStats, dropped: u64)
     ensures { view_stats stats.new ≡ count_flush dropped (view_stats stats.old) }
 {
-    stats.stalls = stats.stalls.saturating_add(dropped);
-    stats.branch_stalls = stats.branch_stalls.saturating_add(dropped);
+    stats.stalls = capability::saturating_add(stats.stalls, dropped);
+    stats.branch_stalls = capability::saturating_add(stats.branch_stalls, dropped);
     up(&mut stats.flushes);
 }
 

@@ -182,7 +182,7 @@ impl Track {
         if self.cells < 200 {
             self.cells += 1;
         } else {
-            self.first_cycle = self.first_cycle.saturating_add(1);
+            self.first_cycle = capability::saturating_add(self.first_cycle, 1);
             self.oldest = (self.oldest + 1) % 200;
         }
     }
