@@ -1,5 +1,5 @@
 -- What filter and min_by_key take of a list: the first of the least that pass.
-use Prim.Native.Nat.{ℕ, ◌<◌}
+use Prim.Native.Nat.{ℕ, zero, suc, ◌≤◌, ◌<◌}
 use mathlib.Core.Path.{◌≡◌, refl, sym, ap, ap₂, subst, ◌∙◌}
 use mathlib.Core.Bool.{Bool, true, false, cond}
 use mathlib.Core.List.{List, [], ◌∷◌, ◌++◌, map}
@@ -8,7 +8,7 @@ use lib.Dec.{ltb}
 use borrow.Author.Tests.{ltb-true, ltb-false}
 use denote.Ref.{Bor}
 use denote.Param.Members.{Mut}
-use Rattle.std.specs.Prelude.{Option, None, Some, IfSome, option_map, filter, fold}
+use Rattle.std.specs.Prelude.{Option, None, Some, IfSome, option_map, filter, fold, slice_get}
 use Rattle.std.specs.declared.cmp.Ordering.{Ordering}
 use Rattle.std.specs.declared.cmp.Ordering.TheVariants.{Less, Equal, Greater}
 use Rattle.std.specs.Ordering.{nat_cmp, min_by_ordering, MatchOrdering}
@@ -18,6 +18,7 @@ use Rattle.std.specs.Iterator.{KeyTurn, PicksMinByKey}
 use Rattle.std.proofs.lemmas.Cmp.{ranked}
 use Rattle.std.proofs.lemmas.Iterator.{YieldsList, items_from_drains}
 use Rattle.laws.specs.Lists.{All}
+use Rattle.laws.proofs.Choices.{none-some, some_inj}
 use Rattle.laws.proofs.Tests.{cond-lt, cond-ge, cond-ap}
 
 module _ {B : Type 0} (key : B → ℕ) where
@@ -53,6 +54,10 @@ module _ {B : Type 0} (key : B → ℕ) where
           let l = ltb-false (key y) (key x) e in
           let k = ltb-false (key z) (key y) d in
           cond-ge (Some z) (Some x) {m = key z} {n = key x} (omega (arith, l, k)) ∙ sym (ap (λ t. cond t (Some y) (Some x)) e)
+
+  -- One that is no less than the one before it does not matter.
+  sooner-over : (x y : B) (m : Option B) → key x ≤ key y → sooner x (sooner y m) ≡ sooner x m
+  sooner-over x y m h = sym (step_first x y m) ∙ ap (λ z. sooner z m) (cond-ge y x h)
 
   walked : (x : B) (xs : List B) → Some (fold step x xs) ≡ least (x ∷ xs)
   unfolding least
@@ -98,6 +103,40 @@ module _ {B : Type 0} (P : B → Type 0) (p : B → Bool) where
       by : (b : Bool) → p x ≡ b → All P (filter p xs) → All P (filter p (x ∷ xs))
       by true e h = rw e (a.0, h)
       by false e h = rw e h
+
+-- ── At a place ──────────────────────────────────────────────────────────────
+
+module _ {B : Type 0} (key : B → ℕ) (p : B → Bool) where
+  -- None passes.
+  pub least-none : (xs : List B) → ((j : ℕ) (y : B) → slice_get xs j ≡ Some y → p y ≡ false) → None ≡ least key (filter p xs)
+  unfolding least
+  least-none [] h = refl
+  least-none (y ∷ ys) h = rw (h 0 y refl) (least-none ys (λ j. h (suc j)))
+
+  -- x stands before them, and none that passes is less.
+  none-less : (x : B) (xs : List B) → ((j : ℕ) (y : B) → slice_get xs j ≡ Some y → p y ≡ true → key x ≤ key y) → Some x ≡ sooner key x (least key (filter p xs))
+  unfolding least
+  none-less x [] h = refl
+  none-less x (y ∷ ys) h = by (p y) refl (none-less x ys (λ j. h (suc j)))
+    where
+      by : (b : Bool) → p y ≡ b → Some x ≡ sooner key x (least key (filter p ys)) → Some x ≡ sooner key x (least key (filter p (y ∷ ys)))
+      by true e r = rw e (r ∙ sym (sooner-over key x y (least key (filter p ys)) (h 0 y refl e)))
+      by false e r = rw e r
+
+  -- x at place k passes, none that passes is less, and those before it are greater.
+  pub least_at : (xs : List B) (k : ℕ) (x : B) → slice_get xs k ≡ Some x → p x ≡ true
+      → ((j : ℕ) (y : B) → slice_get xs j ≡ Some y → p y ≡ true → key x ≤ key y)
+      → ((j : ℕ) (y : B) → j < k → slice_get xs j ≡ Some y → p y ≡ true → key x < key y)
+      → Some x ≡ least key (filter p xs)
+  unfolding least
+  least_at [] k x e t lowest first = none-some x e
+  least_at (y ∷ ys) zero x e t lowest first = rw (some_inj y x e) (rw t (none-less x ys (λ j. lowest (suc j))))
+  least_at (y ∷ ys) (suc k) x e t lowest first =
+      by (p y) refl (least_at ys k x e t (λ j. lowest (suc j)) (λ j z l. first (suc j) z (omega (arith, l))))
+    where
+      by : (b : Bool) → p y ≡ b → Some x ≡ least key (filter p ys) → Some x ≡ least key (filter p (y ∷ ys))
+      by true d r = rw d (sym (ap (sooner key y) (sym r) ∙ cond-lt (Some x) (Some y) (first 0 y (omega arith) refl d)))
+      by false d r = rw d r
 
 -- Those of a list that is read through f.
 pub least-map : {A B : Type 0} (key : B → ℕ) (f : A → B) (xs : List A) → least key (map f xs) ≡ option_map f (least (λ x. key (f x)) xs)

@@ -1,10 +1,12 @@
 -- The units and the queue read whole: what the least of them, and one at a place, is to the model.
-use Prim.Native.Nat.{ℕ, zero, suc, ◌<◌}
+use Prim.Native.Nat.{ℕ, zero, suc, ◌≤◌, ◌<◌}
 use mathlib.Core.Path.{◌≡◌, refl, sym, ap, ap₂, subst, ◌∙◌}
 use mathlib.Core.Bool.{Bool, true, false, cond, ◌&&◌, ◌||◌}
 use mathlib.Core.List.{List, [], ◌∷◌, ◌++◌, map, map-map}
+use mathlib.Core.Logic.{⊎_elim}
 use Rattle.std.specs.Prelude.{Option, None, Some, IfSome, option_map, filter, slice_get}
-use Rattle.laws.proofs.Tests.{value_or-some}
+use Rattle.laws.proofs.Choices.{none-some}
+use Rattle.laws.proofs.Tests.{value_or-some, lt-or-ge}
 use Rattle.laws.specs.Means.{MeansFor}
 use Rattle.laws.specs.Lists.{All, keep, count}
 use native.Mathlib.Omega.{arith}
@@ -14,7 +16,7 @@ use lib.Seq.{length-take-le}
 use denote.Ref.{Bor}
 use Rattle.std.specs.List.{list_any}
 use Rattle.std.proofs.lemmas.Option.{slice_get-map}
-use Rattle.laws.proofs.Slices.{All-take, take-map, seen-nth}
+use Rattle.laws.proofs.Slices.{All-take, All-get_or, take-map, seen-nth, nth-get_or, nth_end}
 use Rattle.laws.proofs.Maps.{any-map, count_map}
 use Rattle.model.specs.Op.{Op}
 use Rattle.model.specs.Units.{FunctionalUnit, idle_unit, seq_of, is_busy, unit_op, unit_at}
@@ -25,10 +27,12 @@ use Rattle.flight.specs.declared.Queue.{Queue}
 use Rattle.flight.specs.View.{Legend, nothing_carried, op_with, view_queued, view_queue, entries, QueuedOk, QueueOk}
 use Rattle.units.specs.declared.Unit.{Unit as Slot}
 use Rattle.units.specs.View.{view_unit, UnitOk}
+use Rattle.units.specs.Lent.{oldest_busy, Oldest}
+use Rattle.units.proofs.OldestIs.{oldest-is}
 use Rattle.bank.specs.declared.Units.{Units}
 use Rattle.bank.specs.View.{view_units, slots, UnitsOk}
 use Rattle.bank.proofs.Steps.{units-next}
-use Rattle.occupants.proofs.Least.{sooner, sooner-of, least, least-append, least-map, least-All, filter-All}
+use Rattle.occupants.proofs.Least.{sooner, sooner-of, least, least-append, least-map, least-All, filter-All, least-none, least_at}
 use Rattle.occupants.specs.View.{view_maybe_op, view_maybe_unit, MaybeOpOk, MaybeUnitOk, is_before}
 
 blank : Legend
@@ -80,8 +84,8 @@ filter-read f p (x ∷ xs) = by (p (f x)) refl (filter-read f p xs)
 -- r is the least of the units that pass, by the model's numbers.
 module _ {us : Units} (ok : UnitsOk us) (P : FunctionalUnit → Bool) {r : Option Slot}
     (e : (g : Legend) → r ≡ least (λ u. seq_of (view_unit g u)) (filter (λ u. P (view_unit g u)) (slots us))) where
-  oldest-is : (g : Legend) → view_maybe_unit g r ≡ oldest P (view_units g us)
-  oldest-is g =
+  oldest-seen : (g : Legend) → view_maybe_unit g r ≡ oldest P (view_units g us)
+  oldest-seen g =
       ap (option_map (view_unit g)) (e g) ∙ sym (least-map seq_of (view_unit g) (filter (λ u. P (view_unit g u)) (slots us)))
       ∙ ap (least seq_of) (sym (filter-read (view_unit g) P (slots us))) ∙ sym (oldest-least P (map (view_unit g) (slots us)))
       ∙ ap (oldest P) (sym (units-map g us))
@@ -90,7 +94,7 @@ module _ {us : Units} (ok : UnitsOk us) (P : FunctionalUnit → Bool) {r : Optio
   oldest_means =
       let passes = λ (u : Slot). P (view_unit blank u) in
       record {
-        is = oldest-is;
+        is = oldest-seen;
         ok =
             subst (λ m. IfSome m UnitOk) (sym (e blank))
             (least-All (λ u. seq_of (view_unit blank u)) UnitOk (filter passes (slots us)) (filter-All UnitOk passes (slots us) (slots-ok ok)));
@@ -141,8 +145,25 @@ held-by g u = unit_op (view_unit g u)
 abbrev number : Op → ℕ
 number o = o.core.seq
 
-all-least : (us : Units) (q : Queue) (m : Option (Bor Slot)) → option_map (λ x. x.now) m ≡ least (λ u. u.seq) (filter (λ u. u.busy) (slots us)) → (g : Legend) → oldest_op (map unit_op (keep is_busy (view_units g us)) ++ view_queue g q)
-    ≡ sooner-of number (option_map (held-by g) (option_map (λ x. x.now) m)) (oldest_op (view_queue g q))
+-- What `oldest_busy` finds is the least of the busy ones.
+module _ (xs : List Slot) {r : Option ℕ} (e : r ≡ oldest_busy xs) where
+  told : {s : Option ℕ} → r ≡ s → Oldest xs s
+  told h = subst (Oldest xs) (sym e ∙ h) (oldest-is xs)
+
+  module _ {i : ℕ} (h : r ≡ Some i) where
+    pub found_below : i < length xs
+    found_below = ⊎_elim (λ (l : i < length xs). l) (λ (l : length xs ≤ i). none-some (told h).0 (sym (nth_end xs l) ∙ (told h).1.here)) (lt-or-ge i (length xs))
+
+    found_least : (d : Slot) → Some (get_or xs i d) ≡ least (λ u. u.seq) (filter (λ u. u.busy) xs)
+    found_least d =
+        let w = (told h).1 in
+        sym (nth-get_or xs d found_below) ∙ w.here ∙ least_at (λ u. u.seq) (λ u. u.busy) xs i (told h).0 w.here w.busy w.least w.first
+
+  none_busy : r ≡ None → None ≡ least (λ u. u.seq) (filter (λ u. u.busy) xs)
+  none_busy h = least-none (λ u. u.seq) (λ u. u.busy) xs (told h)
+
+all-least : (us : Units) (q : Queue) (m : Option Slot) → m ≡ least (λ u. u.seq) (filter (λ u. u.busy) (slots us))
+    → (g : Legend) → oldest_op (map unit_op (keep is_busy (view_units g us)) ++ view_queue g q) ≡ sooner-of number (option_map (held-by g) m) (oldest_op (view_queue g q))
 unfolding view_unit op_with is_busy unit_op
 all-least us q m e g =
     let busy : List Slot = filter (λ u. u.busy) (slots us) in
@@ -154,31 +175,28 @@ all-least us q m e g =
     ∙ least-append number (map (held-by g) busy) (view_queue g q)
     ∙ ap₂ (sooner-of number) (least-map number (held-by g) busy ∙ ap (option_map (held-by g)) (sym e)) (sym (oldest_op-least (view_queue g q)))
 
-module _ {us : Units} (ok : UnitsOk us) (q : Queue) {m : Option (Bor Slot)}
-    (e : option_map (λ x. x.now) m ≡ least (λ u. u.seq) (filter (λ u. u.busy) (slots us))) where
-  pub busy_ok : (x : Bor Slot) → m ≡ Some x → UnitOk x.now
-  busy_ok x h =
-      subst (λ o. IfSome o UnitOk) (sym e ∙ ap (option_map (λ y. y.now)) h)
-      (least-All (λ u. u.seq) UnitOk (filter (λ u. u.busy) (slots us)) (filter-All UnitOk (λ u. u.busy) (slots us) (slots-ok ok)))
+-- r is where the oldest busy unit stands.
+module _ {us : Units} (ok : UnitsOk us) (q : Queue) {xs : List Slot} (a : xs ≡ slots us) {r : Option ℕ} (e : r ≡ oldest_busy xs) where
+  pub busy_ok : {i : ℕ} → r ≡ Some i → (d : Slot) → UnitOk (get_or xs i d)
+  busy_ok h d = All-get_or UnitOk xs d (subst (All UnitOk) (sym a) (slots-ok ok)) (found_below xs e h)
 
   -- behind is the oldest queued operation.
   module _ {behind : Option Queued} (b : MeansFor view_maybe_op MaybeOpOk behind (λ g. oldest_op (view_queue g q))) where
-    pub flight_busy : (x : Bor Slot) → m ≡ Some x → {y : Queued} → MeansFor view_queued QueuedOk y (λ g. held-by g x.now) → {r : Option Queued}
-        → MeansFor view_maybe_op MaybeOpOk r (λ g. older_op (view_queued g y) (view_maybe_op g behind))
-        → MeansFor view_maybe_op MaybeOpOk r (λ g. oldest_op (map unit_op (keep is_busy (view_units g us)) ++ view_queue g q))
-    flight_busy x h w n =
+    pub flight_busy : {i : ℕ} → r ≡ Some i → (d : Slot) {y : Queued} → MeansFor view_queued QueuedOk y (λ g. held-by g (get_or xs i d)) → {o : Option Queued}
+        → MeansFor view_maybe_op MaybeOpOk o (λ g. older_op (view_queued g y) (view_maybe_op g behind))
+        → MeansFor view_maybe_op MaybeOpOk o (λ g. oldest_op (map unit_op (keep is_busy (view_units g us)) ++ view_queue g q))
+    flight_busy {i} h d w n =
         record {
           is = λ g.
-              n.is g ∙ ap₂ older_op (w.is g) (b.is g) ∙ older-sooner (held-by g x.now) (oldest_op (view_queue g q))
-              ∙ ap (λ o. sooner-of number (option_map (held-by g) (option_map (λ y. y.now) o)) (oldest_op (view_queue g q))) (sym h) ∙ sym (all-least us q m e g);
+              n.is g ∙ ap₂ older_op (w.is g) (b.is g) ∙ older-sooner (held-by g (get_or xs i d)) (oldest_op (view_queue g q))
+              ∙ sym (all-least us q (Some (get_or xs i d)) (found_least xs e h d ∙ ap (λ l. least (λ u. u.seq) (filter (λ u. u.busy) l)) a) g);
           ok = n.ok;
         }
 
-    pub flight_queued : m ≡ None → MeansFor view_maybe_op MaybeOpOk behind (λ g. oldest_op (map unit_op (keep is_busy (view_units g us)) ++ view_queue g q))
+    pub flight_queued : r ≡ None → MeansFor view_maybe_op MaybeOpOk behind (λ g. oldest_op (map unit_op (keep is_busy (view_units g us)) ++ view_queue g q))
     flight_queued h =
         record {
-          is = λ g.
-              b.is g ∙ ap (λ o. sooner-of number (option_map (held-by g) (option_map (λ y. y.now) o)) (oldest_op (view_queue g q))) (sym h) ∙ sym (all-least us q m e g);
+          is = λ g. b.is g ∙ sym (all-least us q None (none_busy xs e h ∙ ap (λ l. least (λ u. u.seq) (filter (λ u. u.busy) l)) a) g);
           ok = b.ok;
         }
 

@@ -49,9 +49,9 @@ pub fn oldest_in_flight(units: &Units, queue: &Queue) -> Option<Queued>
     ensures { MeansFor view_maybe_op MaybeOpOk result (λ g. oldest_op (map unit_op (keep is_busy (view_units g units.now)) ++ view_queue g queue.now)) }
 {
     let queued = oldest_queued(queue);
-    let busy = units.as_slice().iter().filter(|u| u.busy);
-    match busy.min_by_key(|u| u.seq) {
-        Some(u) => older_op(op_of(u), queued),
+    let items = units.as_slice();
+    match units::lent::oldest_busy(items) {
+        Some(i) => older_op(op_of(&items[i]), queued),
         None => queued,
     }
 }
