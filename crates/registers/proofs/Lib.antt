@@ -1,7 +1,9 @@
 pub mod Interning
 pub mod FirstUse
 pub mod Look
+pub mod Hints
 pub mod NameTable
+pub mod HintLaws
 pub mod Numbering
 pub mod Resolving
 pub mod Owing

@@ -27,7 +27,9 @@ use Rattle.op.proofs.Firsts.{take-least}
 use Rattle.op.proofs.Texts.{shown-long, shown-short}
 use Rattle.registers.specs.declared.RegisterTable.{RegisterTable}
 use Rattle.registers.specs.View.{view_known, view_held, table_of, view_table, NameOk, TableOk}
+use Rattle.registers.specs.Hints.{bucket_of, Empty}
 use Rattle.registers.specs.Promises.{InternedTo}
+use Rattle.registers.proofs.Hints.{grown_none, grown_push}
 use Rattle.registers.proofs.Interning.{same-yes, intern-here, intern-behind, number-most, names-held, names-new, get-held, get-new, intern-distinct}
 
 -- What a read past the end would give.
@@ -83,12 +85,13 @@ module _ {t : RegisterTable} (ok : TableOk t) where
   unnamed h e = record { is = e ∙ sym (ap (value_or (bytes "?")) (nth_end (view_held t) (omega (arith, held-length)))); ok = rw e (lit≤ tt) }
 
 -- No name yet.
-pub empty-table : (x : Chars 16) → view_text x ≡ [] → Means view_table TableOk (record { names = replicate 256 x; hints = replicate 1024 0; known = 0; held = 0 }) (table_of [] [])
+pub empty-table : (x : Chars 16) → view_text x ≡ [] → Empty (record { names = replicate 256 x; hints = replicate 1024 0; known = 0; held = 0 })
 unfolding view_known view_held
 empty-table x e =
     record {
       is = refl;
       ok = record { known = omega arith; held = omega arith; size = refl; hints = refl; each = All-replicate NameOk 256 x (rw e (lit≤ tt)); distinct = tt };
+      hints = refl;
     }
 
 -- ── The search ────────────────────────────────────────────────────────────────
@@ -160,9 +163,9 @@ module _ {t : RegisterTable} (ok : TableOk t) where
 
 -- ── One name more ─────────────────────────────────────────────────────────────
 
--- Behind the others, with a hint in a bucket.
-abbrev put : RegisterTable → Chars 16 → ℕ → RegisterTable
-put t x b = record { names = set t.names t.held x; hints = set t.hints b t.held; known = t.known; held = t.held + 1 }
+-- At a place, with a hint at a number in a bucket.
+abbrev put : RegisterTable → Chars 16 → ℕ → ℕ → ℕ → RegisterTable
+put t x i b k = record { names = set t.names i x; hints = set t.hints b k; known = t.known; held = t.held + 1 }
 
 module _ {t : RegisterTable} (ok : TableOk t) where
   pub interned-held : (a : Text) {k : ℕ} → get (view_held t) a ≡ Some k → InternedTo t a t (Some k)
@@ -173,6 +176,7 @@ module _ {t : RegisterTable} (ok : TableOk t) where
         is = λ j p. rw (sym (some_inj k j p)) q;
         same = λ p. refl;
         known = refl;
+        grown = grown_none (held-length ok);
         ok = ok;
       }
 
@@ -187,23 +191,26 @@ module _ {t : RegisterTable} (ok : TableOk t) where
           is = λ j p. absurd (none-some j p);
           same = λ p. refl;
           known = refl;
+          grown = grown_none (held-length ok);
           ok = ok;
         }
 
-    pub interned-new : (b : ℕ) → NameOk x → t.held < 256 → InternedTo t (view_text x) (put t x b) (Some t.held)
+    -- Behind the others.
+    put-last : NameOk x → t.held < 256 → InternedTo t (view_text x) (put t x t.held (bucket_of (view_text x)) t.held) (Some t.held)
     unfolding view_held view_known
-    interned-new b fits h =
+    put-last fits h =
         record {
           fits = sym (not_yes (le-ltb 256 (length (intern (view_held t) (view_text x)).names) (omega (arith, longer, h, ok.held))));
           is = λ j p. ap₂ interned (sym (some_inj t.held j p)) held ∙ sym (get_none (view_held t) (view_text x) e ∙ ap (λ n. interned n (view_held t ++ view_text x ∷ [])) (held-length ok));
           same = λ p. absurd (none-some t.held (sym p));
           known = ap (take t.known) (map-set view_text t.names t.held x) ∙ take-set-le t.known (map view_text t.names) t.held (view_text x) ok.known;
+          grown = grown_push (held-length ok) (view_text x) held refl;
           ok =
               record {
                 known = omega (arith, ok.known);
                 held = omega (arith, h, ok.held);
                 size = length-set t.names t.held x ∙ ok.size;
-                hints = length-set t.hints b t.held ∙ ok.hints;
+                hints = length-set t.hints (bucket_of (view_text x)) t.held ∙ ok.hints;
                 each = All-set NameOk t.names t.held x ok.each fits;
                 distinct =
                     subst Distinct (ap (λ r. r.names) (get_none (view_held t) (view_text x) e) ∙ sym held)
@@ -211,8 +218,15 @@ module _ {t : RegisterTable} (ok : TableOk t) where
               };
         }
       where
-        held : view_held (put t x b) ≡ view_held t ++ view_text x ∷ []
+        held : view_held (put t x t.held (bucket_of (view_text x)) t.held) ≡ view_held t ++ view_text x ∷ []
         held = view-pushed view_text t.names t.held x (omega (arith, ok.size, ok.held, h))
+
+    pub interned-new : {i b k : ℕ} → i ≡ t.held → b ≡ bucket_of (view_text x) → k ≡ t.held → NameOk x → t.held < 256
+        → InternedTo t (view_text x) (put t x i b k) (Some t.held)
+    interned-new {i} {b} {k} p q r fits h =
+        subst (λ j. InternedTo t (view_text x) (put t x j b k) (Some t.held)) (sym p)
+        (subst (λ j. InternedTo t (view_text x) (put t x t.held j k) (Some t.held)) (sym q)
+        (subst (λ j. InternedTo t (view_text x) (put t x t.held (bucket_of (view_text x)) j) (Some t.held)) (sym r) (put-last fits h)))
 
 -- ── The counts ────────────────────────────────────────────────────────────────
 

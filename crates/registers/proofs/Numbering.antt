@@ -1,7 +1,7 @@
 -- The loop that numbers a list of names.
 use Rattle.op.specs.declared.chars.Chars.{Chars}
 use Prim.Native.Nat.{ℕ, zero, suc, ◌+◌, ◌<◌}
-use mathlib.Core.Path.{◌≡◌, sym, subst, ap, ◌∙◌}
+use mathlib.Core.Path.{◌≡◌, refl, sym, subst, ap, ◌∙◌}
 use mathlib.Core.List.{List, [], ◌∷◌, ◌++◌, map, append-nil}
 use native.Mathlib.Nat.{le_refl, not-suc-le-zero, le_of_suc-le-suc}
 use native.Mathlib.Omega.{arith}
@@ -19,14 +19,19 @@ use Rattle.model.specs.Registers.{interned, intern, numbered, number_first, inte
 use Rattle.op.specs.Chars.{view_text}
 use Rattle.registers.specs.declared.RegisterTable.{RegisterTable}
 use Rattle.registers.specs.View.{view_known, view_held, Short, NameOk, TableOk}
+use Rattle.registers.specs.Hints.{Grown}
 use Rattle.registers.specs.Promises.{InternedTo, NumberedTo}
 use Rattle.registers.proofs.Interning.{all-grows}
-use Rattle.registers.proofs.NameTable.{table-most}
+use Rattle.registers.proofs.Hints.{grown_more}
+use Rattle.registers.proofs.NameTable.{held-length, table-most}
 
 -- Of the names the first i have their numbers in ks; ns are the names then, ns₀ those at the start.
 pub record Numbering (ns₀ : List Text) (names : List (Chars 16)) (ns : List Text) (ks : List ℕ) (i : ℕ) : Type 0 where
   pub is : numbered (take i ks ++ (intern_all ns (drop i (map view_text names))).numbers) (intern_all ns (drop i (map view_text names))).names
       ≡ intern_all ns₀ (map view_text names)
+
+pub numbering-first : {ns : List Text} {names : List (Chars 16)} {ks : List ℕ} → Numbering ns names ns ks 0
+numbering-first = record { is = refl }
 
 module _ {ns₀ ns : List Text} {names : List (Chars 16)} {ks : List ℕ} {i : ℕ} (e : Numbering ns₀ names ns ks i) where
   module _ (d : Chars 16) (h : i < length names) where
@@ -83,15 +88,17 @@ short-at (x ∷ xs) (suc i) d a h = short-at xs i d a.1 (le_of_suc-le-suc h)
 
 -- s is the table then, t the one at the start.
 module _ {t s : RegisterTable} {names : List (Chars 16)} {ks : List ℕ} {i : ℕ} (known : view_known s ≡ view_known t)
+    (grown : Grown t s)
     (e : Numbering (view_held t) names (view_held s) ks i) (n : ℕ) where
-  pub numbered-none : {u : RegisterTable} {r : Option ℕ} {q : Option (List ℕ)} (d : Chars 16) → i < length names → InternedTo s (view_text (get_or names i d)) u r → r ≡ None → q ≡ None
+  pub numbered-none : TableOk t → TableOk s → {u : RegisterTable} {r : Option ℕ} {q : Option (List ℕ)} (d : Chars 16) → i < length names → InternedTo s (view_text (get_or names i d)) u r → r ≡ None → q ≡ None
       → NumberedTo t n (map view_text names) u q
-  numbered-none {u} {r} {q} d h f p z =
+  numbered-none first now {u} {r} {q} d h f p z =
       let more = ltb-true 256 _ (not-false _ (sym f.fits ∙ ap is_some p)) in
       record {
         fits = ap is_some z ∙ sym (not-no (lt-ltb 256 _ (numbering-full e d h more)));
         is = λ ls y. absurd (none-some ls (sym z ∙ y));
         known = f.known ∙ known;
+        grown = grown_more (held-length first) (held-length now) grown f.grown;
         size = subst (λ o. IfSome o (λ (l : List ℕ). length l ≡ n)) (sym z) tt;
         ok = f.ok;
       }
@@ -102,6 +109,7 @@ module _ {t s : RegisterTable} {names : List (Chars 16)} {ks : List ℕ} {i : �
         fits = sym (not_yes (le-ltb 256 _ (table-most ok _ (ap (λ r. r.names) (all-numbered e h)))));
         is = numbering-last e h;
         known = known;
+        grown = grown;
         size = size;
         ok = ok;
       }

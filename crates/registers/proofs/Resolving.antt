@@ -27,9 +27,11 @@ use Rattle.op.proofs.Names.{listed-length, listed-within, listed-first}
 use Rattle.registers.specs.declared.RegisterTable.{RegisterTable}
 use Rattle.registers.specs.declared.Operands.{Operands}
 use Rattle.registers.specs.View.{view_known, view_held, Short, TableOk, read, written, OperandsOk}
+use Rattle.registers.specs.Hints.{Grown}
 use Rattle.registers.specs.Promises.{Lists, FoundTo, NumberedTo, ResolvedTo}
 use Rattle.registers.proofs.Interning.{all_append, all-grows}
-use Rattle.registers.proofs.NameTable.{table-most}
+use Rattle.registers.proofs.Hints.{grown_none, grown_more}
+use Rattle.registers.proofs.NameTable.{held-length, table-most}
 
 -- ── The operation ─────────────────────────────────────────────────────────────
 
@@ -97,16 +99,18 @@ module _ {t : RegisterTable} (i : Info) where
   pub resolved-all : {u : RegisterTable} {ns : List Text} (x : Operands) → numbered (read x) ns ≡ intern_all (view_held t) i.sources
       → numbered (written x) (view_held u) ≡ intern_all ns i.writes
       → view_known u ≡ view_known t
+      → Grown t u
       → TableOk u
       → OperandsOk x
       → ResolvedTo t i u (Some x)
   unfolding registers
-  resolved-all {u} {ns} x p q known ok fine =
+  resolved-all {u} {ns} x p q known grown ok fine =
       record {
         fits = sym (not_yes (le-ltb 256 _ (table-most ok _ names)));
         same = λ e. absurd (none-some x (sym e));
         is = λ y e. subst (λ z. operands (read z) (written z) (view_held u) ≡ resolve (view_held t) i) (some_inj x y e) whole;
         known = known;
+        grown = grown;
         ok = ok;
         numbers = fine;
       }
@@ -126,6 +130,7 @@ module _ {t : RegisterTable} (i : Info) where
         same = λ e. refl;
         is = λ x e. absurd (none-some x e);
         known = refl;
+        grown = grown_none (held-length ok);
         ok = ok;
         numbers = tt;
       }
@@ -150,7 +155,7 @@ module _ {t : RegisterTable} (i : Info) (ok : TableOk t) {n m : ℕ} {reads writ
       → ResolvedTo t i t (Some (operands-in rs ws))
   all-found {rs} {ws} a b =
       resolved-all i {u = t} {ns = view_held t} (operands-in rs ws) (first-numbers p rs (view_held t) (a.is rs refl))
-      (first-numbers q ws (view_held t) (b.is ws refl)) refl ok (operands-ok rs ws a.size b.size)
+      (first-numbers q ws (view_held t) (b.is ws refl)) refl (grown_none (held-length ok)) ok (operands-ok rs ws a.size b.size)
 
   -- No room for the reads.
   pub no-reads : {u : RegisterTable} → NumberedTo t 8 (map view_text reads) u None → ResolvedTo t i t None
@@ -168,4 +173,4 @@ module _ {t : RegisterTable} (i : Info) (ok : TableOk t) {n m : ℕ} {reads writ
     pub all-numbered : {ws : List ℕ} → NumberedTo u 4 (map view_text writes) v (Some ws) → ResolvedTo t i v (Some (operands-in rs ws))
     all-numbered {ws} f =
         resolved-all i (operands-in rs ws) (first-numbers p rs (view_held t) (e.is rs refl)) (first-numbers q ws (view_held u) (f.is ws refl))
-        (f.known ∙ e.known) f.ok (operands-ok rs ws e.size f.size)
+        (f.known ∙ e.known) (grown_more (held-length ok) (held-length e.ok) e.grown f.grown) f.ok (operands-ok rs ws e.size f.size)

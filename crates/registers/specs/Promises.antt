@@ -8,6 +8,7 @@ use Rattle.op.specs.declared.chars.Chars.{Chars}
 use Rattle.op.specs.Chars.{view_text}
 use Rattle.registers.specs.declared.RegisterTable.{RegisterTable}
 use Rattle.registers.specs.declared.Operands.{Operands}
+use Rattle.registers.specs.Hints.{Grown}
 use Rattle.registers.specs.View.{view_known, view_held, Short, TableOk, read, written, OperandsOk}
 
 -- ── RegisterTable::intern ─────────────────────────────────────────────────────
@@ -18,6 +19,7 @@ pub record InternedTo (t : RegisterTable) (a : Text) (u : RegisterTable) (r : Op
   pub is : (k : ℕ) → r ≡ Some k → interned k (view_held u) ≡ intern (view_held t) a
   pub same : r ≡ None → u ≡ t
   pub known : view_known u ≡ view_known t
+  pub grown : Grown t u
   pub ok : TableOk u
 
 -- ── A list of names: their numbers are the first of an array of n ─────────────
@@ -30,6 +32,7 @@ pub record NumberedTo (t : RegisterTable) (n : ℕ) (names : List Text) (u : Reg
   pub fits : is_some r ≡ not (ltb 256 (length (intern_all (view_held t) names).names))
   pub is : (ks : List ℕ) → r ≡ Some ks → numbered (take (length names) ks) (view_held u) ≡ intern_all (view_held t) names
   pub known : view_known u ≡ view_known t
+  pub grown : Grown t u
   pub size : IfSome r (λ (ks : List ℕ). length ks ≡ n)
   pub ok : TableOk u
 
@@ -48,5 +51,6 @@ pub record ResolvedTo (t : RegisterTable) (i : Info) (u : RegisterTable) (r : Op
   pub same : r ≡ None → u ≡ t
   pub is : (x : Operands) → r ≡ Some x → operands (read x) (written x) (view_held u) ≡ resolve (view_held t) i
   pub known : view_known u ≡ view_known t
+  pub grown : Grown t u
   pub ok : TableOk u
   pub numbers : IfSome r OperandsOk

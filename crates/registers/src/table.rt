@@ -1,5 +1,5 @@
 // RegisterTable: names are interned at fetch and known from the look on.
-ghost use Rattle.std.specs.Prelude.{◌≡◌, false, [], map, ◌≤◌, ◌<◌, max, take, length, IfSome};
+ghost use Rattle.std.specs.Prelude.{◌≡◌, false, map, ◌≤◌, ◌<◌, max, take, length, IfSome};
 ghost use Rattle.std.specs.List.{position_from};
 ghost use Rattle.laws.specs.Lists.{All};
 ghost use Rattle.laws.specs.Means.{Means};
@@ -9,6 +9,7 @@ ghost use Rattle.model.specs.Calls.{bad_info, too_many};
 ghost use Rattle.op.specs.Chars.{view_text};
 ghost use Rattle.op.specs.View.{view_op};
 ghost use Rattle.registers.specs.View.{table_of, view_known, view_held, view_table, Short, NameOk, TableOk};
+ghost use Rattle.registers.specs.Hints.{bucket_of, Empty};
 ghost use Rattle.registers.specs.Promises.{InternedTo, Lists, FoundTo, NumberedTo, ResolvedTo};
 
 use super::{Operands, RegisterTable};
@@ -16,7 +17,7 @@ use op::{Name, PipelineOp};
 
 impl RegisterTable {
     pub fn new() -> RegisterTable
-        ensures { Means view_table TableOk result (table_of [] []) }
+        ensures { Empty result }
     {
         RegisterTable {
             names: [Name::empty(); 256],
@@ -151,12 +152,16 @@ impl RegisterTable {
     }
 }
 
-// Where the hint of a name stands: a hash of its bytes.
+// Where the hint of a name stands: a hash of its text. That of one that is too long, which is never held, is 0.
 fn bucket(name: Name) -> usize
-    ensures { result < 1024 }
+    ensures is { result ≡ bucket_of (view_text name) }
+    ensures few { result < 1024 }
 {
+    let Some(text) = name.bytes.get(..name.len as usize) else {
+        return 0;
+    };
     let mut hash: usize = 0;
-    for byte in &name.bytes {
+    for byte in text {
         hash = (hash * 37 + *byte as usize) % 1024;
     }
     hash
