@@ -10,7 +10,7 @@ use native.Mathlib.Numerals.{add-one}
 use native.Mathlib.Omega.{arith}
 use lib.ListN.{length, get_or, set, take, drop, length-set}
 use Rattle.laws.specs.Means.{Means}
-use Rattle.laws.specs.Lists.{All, find_at}
+use Rattle.laws.specs.Lists.{find_at}
 use Rattle.laws.specs.Optional.{value_or}
 use Rattle.laws.proofs.Slices.{Seen, seen-get_or, seen-length, view-next, view-length, view-modify, slice-end, take-map, All-get_or, All-set, All-take}
 use Rattle.capability.specs.declared.PipelineInstructionClass.{PipelineInstructionClass}
@@ -18,7 +18,7 @@ use Rattle.capability.specs.declared.PipelineInstructionClass.TheVariants.{Alu}
 use Rattle.model.specs.Config.{UnitSpec, handles, spec_index, with_capacity, capacities, with_specs}
 use Rattle.config.specs.declared.Spec.{Spec}
 use Rattle.config.specs.declared.Machine.{Machine}
-use Rattle.config.specs.View.{flag, view_spec, view_specs, view_machine}
+use Rattle.config.specs.View.{view_spec, view_specs, view_machine}
 use Rattle.config.specs.Checks.{noted_specs, noted, capacity_refusal}
 use Rattle.config.specs.Kept.{SpecOk, MachineOk}
 use Rattle.config.proofs.Bounds.{spec_index-below}
@@ -55,27 +55,29 @@ pub specs-end : (m : Machine) {i : ℕ} → m.specs_len ≤ i → drop i (view_m
 unfolding view_machine view_specs
 specs-end m h = slice-end (map view_spec m.specs) h
 
--- The flags answer for the kinds.
-flags-find : (c : PipelineInstructionClass) (i : ℕ) (ks : List Spec) → All SpecOk ks
-    → position_from (λ (k : Spec). flag k.classes c) i ks ≡ find_at (λ (j : ℕ) (k : UnitSpec). handles c k) i (map view_spec ks)
+-- The kinds as kept answer for those of the model.
+kinds-find : (c : PipelineInstructionClass) (i : ℕ) (ks : List Spec)
+    → position_from (λ (k : Spec). handles c (view_spec k)) i ks ≡ find_at (λ (j : ℕ) (k : UnitSpec). handles c k) i (map view_spec ks)
 unfolding find_at
-flags-find c i [] a = refl
-flags-find c i (k ∷ ks) a =
-    rw (sym (a.0.takes c), flags-find c (i + 1) ks a.1, add-one) (choice (flag k.classes c) _)
+kinds-find c i [] = refl
+kinds-find c i (k ∷ ks) = rw (kinds-find c (i + 1) ks, add-one) (choice (handles c (view_spec k)) _)
   where
     choice : (b : Bool) (o : Option ℕ) → cond b (Some i) o ≡ option_or (cond b (Some i) None) o
     choice true o = refl
     choice false o = refl
 
 module _ (m : Machine) where
-  -- The first kind that takes a class, by the flags.
-  pub index_found : MachineOk m → (c : PipelineInstructionClass)
-      → unwrap_or (position_from (λ (k : Spec). flag k.classes c) 0 (take m.specs_len m.specs)) 0 ≡ spec_index (view_machine m).specs c
+  pub kinds_ok : MachineOk m → (i : ℕ) (d : Spec) → i < length (take m.specs_len m.specs) → SpecOk (get_or (take m.specs_len m.specs) i d)
+  kinds_ok ok i d h = All-get_or SpecOk (take m.specs_len m.specs) d (All-take SpecOk m.specs_len m.specs ok.specs.each) h
+
+  -- The first kind that takes a class.
+  pub index_found : (c : PipelineInstructionClass)
+      → unwrap_or (position_from (λ (k : Spec). handles c (view_spec k)) 0 (take m.specs_len m.specs)) 0 ≡ spec_index (view_machine m).specs c
   unfolding spec_index view_machine view_specs
-  index_found ok c =
-      given (position_from (λ (k : Spec). flag k.classes c) 0 (take m.specs_len m.specs)) 0
+  index_found c =
+      given (position_from (λ (k : Spec). handles c (view_spec k)) 0 (take m.specs_len m.specs)) 0
       ∙ ap (value_or 0)
-      (flags-find c 0 (take m.specs_len m.specs) (All-take SpecOk m.specs_len m.specs ok.specs.each)
+      (kinds-find c 0 (take m.specs_len m.specs)
       ∙ ap (find_at (λ (j : ℕ) (k : UnitSpec). handles c k) 0) (sym (take-map view_spec m.specs_len m.specs)))
 
   -- The units of all kinds.

@@ -1,7 +1,7 @@
 // What a machine declares (pipeline/config.rs), what making refuses of it, and what the engine keeps.
 #![tactic(auto)]
 
-ghost use Rattle.std.specs.Prelude.{◌≡◌, ◌||◌, not, map, length, eqb, ◌-◌, ◌≤◌, ◌<◌, min, max, ◌^◌, sum_by};
+ghost use Rattle.std.specs.Prelude.{◌≡◌, ◌||◌, not, map, length, eqb, ◌-◌, ◌≤◌, ◌<◌, min, max, ◌^◌, sum_by, All};
 ghost use Rattle.laws.specs.Means.{Means};
 ghost use Rattle.laws.specs.Numbers.{max64};
 ghost use Rattle.std.specs.List.{list_any, list_all, position_from};
@@ -130,9 +130,10 @@ fn any_bad_name(units: &[UnitSpec]) -> bool
 
 // The first kind that takes a class.
 fn first_taking(kinds: &[Spec], class: PipelineInstructionClass) -> Option<usize>
-    ensures { result ≡ position_from (λ k. flag k.classes class) 0 kinds.now }
+    requires { All SpecOk kinds.now }
+    ensures { result ≡ position_from (λ k. handles class (view_spec k)) 0 kinds.now }
 {
-    kinds.iter().position(|kind| kind.takes(class))
+    kinds.iter().position(|kind| kind.handles(class))
 }
 
 // The presets of the Rust.
