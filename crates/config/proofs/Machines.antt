@@ -12,7 +12,7 @@ use lib.ListN.{length, get_or, set, take, drop, length-set}
 use Rattle.laws.specs.Means.{Means}
 use Rattle.laws.specs.Lists.{find_at}
 use Rattle.laws.specs.Optional.{value_or}
-use Rattle.laws.proofs.Slices.{Seen, seen-get_or, seen-length, view-next, view-length, view-modify, slice-end, take-map, All-get_or, All-set, All-take}
+use Rattle.laws.proofs.Slices.{Seen, seen-get_or, seen-length, view-next, view-length, view-modify, slice-end, take-map, All-get_or, All-set, All-take, All-drop}
 use Rattle.capability.specs.declared.PipelineInstructionClass.{PipelineInstructionClass}
 use Rattle.capability.specs.declared.PipelineInstructionClass.TheVariants.{Alu}
 use Rattle.model.specs.Config.{UnitSpec, handles, spec_index, with_capacity, capacities, with_specs}
@@ -67,8 +67,10 @@ kinds-find c i (k ∷ ks) = rw (kinds-find c (i + 1) ks, add-one) (choice (handl
     choice false o = refl
 
 module _ (m : Machine) where
-  pub kinds_ok : MachineOk m → (i : ℕ) (d : Spec) → i < length (take m.specs_len m.specs) → SpecOk (get_or (take m.specs_len m.specs) i d)
-  kinds_ok ok i d h = All-get_or SpecOk (take m.specs_len m.specs) d (All-take SpecOk m.specs_len m.specs ok.specs.each) h
+  -- n kinds from place a on.
+  pub kinds_ok : MachineOk m → (a n i : ℕ) (d : Spec) → i < length (take n (drop a m.specs)) → SpecOk (get_or (take n (drop a m.specs)) i d)
+  kinds_ok ok a n i d h =
+      All-get_or SpecOk (take n (drop a m.specs)) d (All-take SpecOk n (drop a m.specs) (All-drop SpecOk a m.specs ok.specs.each)) h
 
   -- The first kind that takes a class.
   pub index_found : (c : PipelineInstructionClass)
