@@ -78,6 +78,11 @@ module _ {b r : Board} {w : Window} {ts : Tracks} {m : Machine} (p : Restable b 
 
 -- ── The names held ──────────────────────────────────────────────────────────
 
+-- A redirect changes neither the array of names nor their hints.
+pub held-same : (o : Option ℕ) (t : RegisterTable) {h : RegisterTable} → h ≡ held_after o t → (h.names ≡ t.names) × (h.hints ≡ t.hints)
+held-same None t q = (ap (λ (u : RegisterTable). u.names) q, ap (λ (u : RegisterTable). u.hints) q)
+held-same (Some a) t q = (ap (λ (u : RegisterTable). u.names) q, ap (λ (u : RegisterTable). u.hints) q)
+
 -- The rows do not matter.
 pub looks-rows : (rs : List Row) (x : Frame) (b : Board) → Looks x b → Looks (with_frame_rows rs x) b
 unfolding known_names

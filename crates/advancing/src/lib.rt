@@ -54,6 +54,8 @@ pub fn advance(
     requires { Restable board.old window tracks.old machine.now }
     ensures done { Rests board.old window tracks.old machine.now table.old redirect (length cells.old) (invitation_answer result) board.new tracks.new table.new }
     ensures memory { RestWrites board.old window tracks.old machine.now table.old redirect cells.old cells.new }
+    ensures names { table.new.names ≡ table.old.names }
+    ensures hints { table.new.hints ≡ table.old.hints }
 {
     let offer = board.offer;
     checks::advance(

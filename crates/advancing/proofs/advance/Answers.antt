@@ -6,7 +6,7 @@ use Rattle.board.specs.View.{view_board}
 use Rattle.engine.specs.View.{answer_by}
 use Rattle.engine.proofs.Does.{does-exit, passes}
 use Rattle.advancing.proofs.Advancing.{checked, cycle-open, cells_fit, memory-refused, stopped, memory-stopped, works, memory-works}
-use Rattle.advancing.proofs.Working.{any-legend, opened, few-waits, no-redirect, working, working-memory}
+use Rattle.advancing.proofs.Working.{any-legend, opened, few-waits, no-redirect, held-same, working, working-memory}
 use Rattle.advancing.proofs.advance.Goals as goal
 
 pub returns-in_err-advance-clause-done : goal.returns-in_err-advance-clause-done
@@ -94,3 +94,9 @@ returns-clause-memory c e v =
     memory-works v t m (passes c.in_ok-advance.was (c.advance.ensures ∙ checked v t (length m))) cl n
     (working-memory v (opened c.requires q cl n) cl c.redirect.ensures c.step.ensures c.issue.ensures c.invite.ensures d.tracks
     c.push_queue.ensures.tracks c.push_units.ensures.tracks d.table m d.memory c.push_queue.ensures.memory c.push_units.ensures.memory)
+
+pub returns-clause-names : goal.returns-clause-names
+returns-clause-names c = (held-same c.args.redirect c.args.table.now c.drop_queued.ensures.table).0
+
+pub returns-clause-hints : goal.returns-clause-hints
+returns-clause-hints c = (held-same c.args.redirect c.args.table.now c.drop_queued.ensures.table).1
