@@ -33,6 +33,7 @@ use Rattle.engine.specs.Valid.{Valid}
 use Rattle.fetching.specs.Fetching.{Queueing, Fetchable}
 use Rattle.fetching.specs.Taking.{NamesTo, engine_by, Admissible, Admitted, Admits, AdmitWrites}
 use Rattle.engine.proofs.Does.{does-refused, does-taken, memory_kept}
+use Rattle.engine.proofs.Fits.{good-text}
 use Rattle.fetching.proofs.Accepting.{queue-room, flight-few, next-board, accepting}
 use Rattle.fetching.proofs.Fetches.{first_rows, first_refusal, second, fetchable, memory-opens}
 
@@ -81,7 +82,8 @@ module _ (o : PipelineOp) {b : Board} {w : Window} {ts : Tracks} {m : Machine} {
             (entry : Queueing x o w.next cycles p q)
             (queue : Queues l (entries b.queue ++ q ∷ []) (λ g. view_queue g b.queue ++ view_queued g q ∷ []))
             (tracks : Means all_tracks TracksOk us (set ts.items (w.next % w.history) (first_track b.log.stats.cycles)))
-            (next : pc ≡ sequential_address m.instruction_bytes (view_op o).decoded) where
+            (next : pc ≡ sequential_address m.instruction_bytes (view_op o).decoded)
+            (size : length o.disassembly.bytes ≡ 64) where
           taken : Admitted b w ts m t o lent p (next-board b pc l) us u
           unfolding run reply
           taken =
@@ -91,8 +93,8 @@ module _ (o : PipelineOp) {b : Board} {w : Window} {ts : Tracks} {m : Machine} {
                 units = refl;
                 good = f.good;
                 next = f.next;
-                admits = λ e v row.
-                    let c = accepting v (fetchable-by e v) row (k.named x i) free next slow entry queue tracks in
+                admits = λ e v.
+                    let c = accepting v (fetchable-by e v) (record { size = size; fits = good-text o f.good }) (k.named x i) free next slow entry queue tracks in
                     does-taken v (last-refusal e v ∙ ap refusal_of i) (λ n. refl) c.is c.parts;
               }
 

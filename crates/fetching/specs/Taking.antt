@@ -19,7 +19,7 @@ use Rattle.flight.specs.Pool.{decoded_of, texts_of}
 use Rattle.timeline.specs.declared.Tracks.{Tracks}
 use Rattle.timeline.specs.declared.RowText.{RowText}
 use Rattle.timeline.specs.declared.Window.{Window}
-use Rattle.timeline.specs.View.{opened, RowTextOk}
+use Rattle.timeline.specs.View.{opened}
 use Rattle.board.specs.declared.Board.{Board}
 use Rattle.engine.specs.Engine.{Engine}
 use Rattle.engine.specs.View.{view_engine}
@@ -61,8 +61,7 @@ admitted_engine b w ts m t place d text slot x e =
       rows = record { items = set e.rows.items slot x };
     }
 
--- Not refused: there is a place for the operation, a row for it, and a number after its own; and it is the fetch of every engine with these parts. The
--- row's text has its 64 bytes, as `row_of` says: a proof does not know that of an array behind a reference.
+-- Not refused: there is a place for the operation, a row for it, and a number after its own; and it is the fetch of every engine with these parts.
 pub record Admitted (b : Board) (w : Window) (ts : Tracks) (m : Machine) (t : RegisterTable) (o : PipelineOp) (lent place : ℕ) (b' : Board) (ts' : Tracks)
     (t' : RegisterTable) : Type 0 where
   pub there : place < 80
@@ -70,7 +69,7 @@ pub record Admitted (b : Board) (w : Window) (ts : Tracks) (m : Machine) (t : Re
   pub good : bad_info (view_op o).info ≡ false
   pub next : w.next < max64
   pub admits
-      : (e : Engine) → Valid (engine_by b w ts m t e) → RowTextOk (row_text o)
+      : (e : Engine) → Valid (engine_by b w ts m t e)
       → Does (engine_by b w ts m t e) (fetch (view_op o) lent) done
       (admitted_engine b' (opened w) ts' m t' place (decoded_of o b'.fetch_pc) (texts_of o) (w.next % w.history) (row_text o) e)
 

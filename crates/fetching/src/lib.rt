@@ -70,6 +70,11 @@ fn resolve(
     table.resolve(op).ok_or(Refusal::NamesFull)
 }
 
+// A proof knows the length of an array behind a reference, but not of one within a struct there, as a row's text in its operation.
+fn has_64_bytes(text: &[u8; 64])
+    ensures { length text.now ≡ 64 }
+{}
+
 // A fetch, but for what stands at its place in the pool, and the row of its number, which the caller sets.
 // model: Calls.refusal, Calls.memory_after, of fetch; Scoreboard.fetched
 pub fn fetch(
@@ -87,6 +92,7 @@ pub fn fetch(
 {
     checks::fetch(board.front.in_cycle, board.front.invited, op, window.next)?;
     let operands = resolve(table, op, cells.len(), window.history)?;
+    has_64_bytes(&op.disassembly.bytes);
     let place = places::free_place(&board.units, &board.queue, board.gone);
     let latency = machine.latency(op.class);
     board

@@ -46,6 +46,6 @@ returns c =
     record {
       done =
           admits o h k i c.requires c.free_place-place.ensures c.latency-latency.ensures c.queued.ensures c.push_back.ensures
-          c.open.ensures.tracks c.sequential_address-board.ensures;
+          c.open.ensures.tracks c.sequential_address-board.ensures c.has_64_bytes.ensures;
       memory = row_opened o c.args.cells.now h k i c.open.ensures.memory;
     }
