@@ -1,17 +1,19 @@
 -- The operation on offer, as the code reads it; what it answers of it.
 use Prim.Native.Nat.{ℕ, ◌<◌}
-use mathlib.Core.Path.{◌≡◌, refl, sym, subst, ap, ◌∙◌}
+use mathlib.Core.Path.{◌≡◌, refl, sym, subst, ap, ap₂, ◌∙◌}
 use mathlib.Core.Bool.{Bool, true, false, cond, not, ◌&&◌}
-use mathlib.Core.List.{List}
+use mathlib.Core.List.{List, [], ◌∷◌}
 use Rattle.std.specs.Prelude.{Option, None, Some, option_map}
 use Rattle.std.specs.Option.{IfSome}
 use lib.Dec.{eqb, ltb}
 use lib.ListN.{get_or}
+use Rattle.laws.specs.Optional.{is_none}
 use Rattle.laws.specs.Texts.{Text}
 use Rattle.model.specs.Op.{Op}
 use Rattle.model.specs.Units.{FunctionalUnit}
 use Rattle.model.specs.Write.{resolve_branch}
 use Rattle.model.specs.Views.{OfferView as ModelOffer, offer_view}
+use Rattle.model.specs.Calls.{first_of}
 use Rattle.flight.specs.declared.pool.Decoded.{Decoded}
 use Rattle.flight.specs.declared.pool.DecodedPool.{DecodedPool}
 use Rattle.flight.specs.declared.pool.TextPool.{TextPool}
@@ -22,13 +24,18 @@ use Rattle.units.specs.View.{view_unit}
 use Rattle.bank.specs.declared.Units.{Units}
 use Rattle.bank.specs.View.{UnitsOk}
 use Rattle.board.specs.declared.Board.{Board}
-use Rattle.board.specs.View.{BoardOk}
 use Rattle.board.proofs.Parts.{unit-seen}
 use Rattle.offering.specs.Answers.{offer_with, op_on_offer}
 
 -- The unit on offer is there.
-pub on_offer_inside : {b : Board} → BoardOk b → {i : ℕ} → b.offer.writing ≡ Some i → i < b.units.len
-on_offer_inside {b} ok q = subst (λ (o : Option ℕ). IfSome o (λ (i : ℕ). i < b.units.len)) q ok.offer
+pub on_offer_inside : (b : Board) → IfSome b.offer.writing (λ (i : ℕ). i < b.units.len) → {i : ℕ} → b.offer.writing ≡ Some i → i < b.units.len
+on_offer_inside b h q = subst (λ (o : Option ℕ). IfSome o (λ (i : ℕ). i < b.units.len)) q h
+
+-- In a cycle no check refuses it.
+pub not-refused : (b : Board) → b.front.in_cycle ≡ true → {i : ℕ} → b.offer.writing ≡ Some i
+    → first_of ((5, not b.front.in_cycle) ∷ (6, is_none b.offer.writing) ∷ []) ≡ None
+unfolding first_of
+not-refused b h q = ap₂ (λ (t : Bool) (o : Option ℕ). first_of ((5, not t) ∷ (6, is_none o) ∷ [])) h q
 
 module _ (ds : DecodedPool) (ts : TextPool) (ns : List Text) where
   abbrev pool-legend : Legend

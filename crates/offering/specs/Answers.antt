@@ -1,8 +1,10 @@
 -- The answers about the result on offer, whatever texts and names stand behind the numbers.
-use Rattle.std.specs.Prelude.{ℕ, ◌≡◌, List, Option, option_map}
+use Rattle.std.specs.Prelude.{ℕ, ◌≡◌, true, List, Option, Some, option_map}
 use Rattle.laws.specs.Texts.{Text}
 use Rattle.model.specs.Op.{Op}
 use Rattle.model.specs.Units.{unit_at}
+use Rattle.model.specs.Write.{resolve_branch}
+use Rattle.model.specs.Calls.{Answer, resolved}
 use Rattle.model.specs.Views.{OfferView as ModelOffer, offer_view}
 use Rattle.flight.specs.declared.pool.Decoded.{Decoded}
 use Rattle.flight.specs.declared.pool.DecodedPool.{DecodedPool}
@@ -36,3 +38,9 @@ op_on_offer ds ts ns us w = option_map (λ (i : ℕ). (unit_at (view_units (lege
 abbrev pub Offers : Board → DecodedPool → Option OfferView → Type 0
 Offers b ds r =
     (ts : TextPool) (ns : List Text) → option_map view_offer r ≡ option_map offer_view (op_on_offer ds ts ns b.units b.offer.writing)
+
+-- In a cycle, with a unit on offer: where to go instead, by the units and the pool alone.
+abbrev pub ResolvesOffer : Board → DecodedPool → ℕ → Answer → Type 0
+ResolvesOffer b ds actual a =
+    b.front.in_cycle ≡ true → (i : ℕ) → b.offer.writing ≡ Some i → (ts : TextPool) (ns : List Text)
+    → a ≡ resolved (resolve_branch (op_on_offer ds ts ns b.units b.offer.writing) actual)

@@ -1,12 +1,13 @@
 // The result on offer: start, retire, retry and resolve, by parts.
 #![tactic(auto)]
 
-ghost use Rattle.std.specs.Prelude.{◌≡◌};
+ghost use Rattle.std.specs.Prelude.{◌≡◌, ℕ, ◌<◌, IfSome};
 ghost use Rattle.op.specs.Chars.{view_text};
 ghost use Rattle.flight.specs.Pool.{DecodedPoolOk};
+ghost use Rattle.bank.specs.View.{UnitsOk};
 ghost use Rattle.board.specs.View.{BoardOk};
 ghost use Rattle.engine.specs.View.{view_offer, done_answer, offer_answer, target_answer};
-ghost use Rattle.offering.specs.Answers.{offer_with, Offers};
+ghost use Rattle.offering.specs.Answers.{offer_with, Offers, ResolvesOffer};
 ghost use Rattle.offering.specs.Results.{StartsCycle, Retires, Retries, Resolves};
 
 use board::Board;
@@ -35,8 +36,9 @@ fn offer_view(u: &Unit, d: &Decoded) -> OfferView
 
 // What the unit on offer offers, if there is one.
 fn offered(board: &Board, decoded: &DecodedPool) -> Option<OfferView>
-    requires board_ok { BoardOk board.now }
+    requires units_ok { UnitsOk board.now.units }
     requires decoded_pool_ok { DecodedPoolOk decoded.now }
+    requires offer_inside { IfSome board.now.offer.writing (λ (at : ℕ). at < board.now.units.len) }
     ensures { Offers board.now decoded.now result }
 {
     let u = &board.units.items[board.offer.writing?];
@@ -83,9 +85,11 @@ pub fn resolve(
     decoded: &DecodedPool,
     actual_next: u64,
 ) -> Result<Option<u64>, Refusal>
-    requires board_ok { BoardOk board.now }
+    requires units_ok { UnitsOk board.now.units }
     requires decoded_pool_ok { DecodedPoolOk decoded.now }
-    ensures { Resolves board.now decoded.now actual_next (target_answer result) }
+    requires offer_inside { IfSome board.now.offer.writing (λ (at : ℕ). at < board.now.units.len) }
+    ensures done { Resolves board.now decoded.now actual_next (target_answer result) }
+    ensures offer { ResolvesOffer board.now decoded.now actual_next (target_answer result) }
 {
     let at = checks::resolve(board.front.in_cycle, board.offer.writing)?;
     let u = &board.units.items[at];

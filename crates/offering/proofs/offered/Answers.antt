@@ -4,6 +4,5 @@ use Rattle.offering.proofs.offered.Goals as goal
 
 pub returns : goal.returns
 returns c ts ns =
-    let ok = c.requires.board_ok in
     let p : c.args.board.now.offer.writing ≡ Some c.in_ok-u.field-0 = search rules in
-    unit_offers c.args.decoded.now ts ns ok.units p (on_offer_inside ok p) _ c.at.ensures c.offer_view.ensures
+    unit_offers c.args.decoded.now ts ns c.requires.units_ok p (on_offer_inside c.args.board.now c.requires.offer_inside p) _ c.at.ensures c.offer_view.ensures
