@@ -10,7 +10,6 @@ use Rattle.flight.specs.declared.pool.Decoded.{Decoded}
 use Rattle.flight.specs.declared.pool.Texts.{Texts}
 use Rattle.timeline.specs.declared.RowText.{RowText}
 use Rattle.timeline.specs.declared.Window.{Window}
-use Rattle.timeline.specs.View.{RowTextOk}
 use Rattle.engine.specs.View.{done_answer, answer_by}
 use Rattle.engine.specs.Calls.{Does}
 use Rattle.fetching.specs.Taking.{engine_by}
@@ -63,7 +62,7 @@ returns-clause-done c =
     }))
     c.open-2.ensures.is c.of.ensures c.of-2.ensures
     (c.open.ensures.is ∙ ap (set e.rows.items _) c.row_of.ensures.is)
-    ((c.fetch.ensures.done.admitted p c.in_ok-place.was).admits e c.requires (subst RowTextOk c.row_of.ensures.is c.row_of.ensures.ok))
+    ((c.fetch.ensures.done.admitted p c.in_ok-place.was).admits e c.requires)
 
 pub returns-clause-memory : goal.returns-clause-memory
 returns-clause-memory c = c.fetch.ensures.memory (parts c.args.self.now) c.requires
