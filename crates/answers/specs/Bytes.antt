@@ -1,5 +1,5 @@
 -- The parts of answers as bytes (docs/CALLS.md, The answers).
-use Rattle.std.specs.Prelude.{ℕ, ◌-◌, Bool, List, [], ◌∷◌, ◌++◌, length, replicate, Option, None, Some}
+use Rattle.std.specs.Prelude.{ℕ, ◌+◌, ◌-◌, Bool, List, [], ◌∷◌, ◌++◌, length, replicate, Option, None, Some}
 use Rattle.std.specs.List.{flat_map}
 use Rattle.std.specs.Int.{w64, to_le_bytes, from_bool}
 use Rattle.laws.specs.Texts.{Text}
@@ -27,7 +27,12 @@ unfoldable pub optional : {A : Type 0} → (A → List ℕ) → Option A → Lis
 optional f None = 0 ∷ []
 optional f (Some x) = 1 ∷ f x
 
--- The same in n bytes, also where the flag is 0.
+-- How many bytes these are, where what is there takes n.
+unfoldable pub optional_length : {A : Type 0} → ℕ → Option A → ℕ
+optional_length n None = 1
+optional_length n (Some x) = 1 + n
+
+-- As `optional` in n bytes, also where the flag is 0.
 unfoldable pub part : {A : Type 0} → ℕ → (A → List ℕ) → Option A → List ℕ
 part n f o = pad n (optional f o)
 
@@ -108,7 +113,7 @@ text_bytes t = number_bytes (length t) ++ t
 
 -- All of these unfold where a line says `unfolding laying`.
 unfoldable pub laying : Unit {0}
-unfolding number_bytes flag_byte pad optional part offer_bytes status_bytes stats_bytes edge_bytes
+unfolding number_bytes flag_byte pad optional optional_length part offer_bytes status_bytes stats_bytes edge_bytes
     hazard_byte slot_bytes slot_part stage_bytes kind_bytes wait_bytes row_bytes cell_bytes index_part operand_bytes operand_part station_bytes
     claim_bytes text_bytes
 laying = tt

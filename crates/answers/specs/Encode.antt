@@ -1,5 +1,5 @@
 -- An answer as bytes: the number that the call was refused with, or 0 and what was answered.
-use Rattle.std.specs.Prelude.{List, [], ◌∷◌, ℕ, Option, Some, None, Result, Ok, Err}
+use Rattle.std.specs.Prelude.{List, [], ◌∷◌, ℕ, ◌+◌, Option, Some, None, Result, Ok, Err}
 use Rattle.std.specs.List.{flat_map}
 use Rattle.model.specs.Calls.{
   Answer,
@@ -31,6 +31,7 @@ use Rattle.answers.specs.Bytes.{
   number_bytes,
   flag_byte,
   optional,
+  optional_length,
   offer_bytes,
   status_bytes,
   stats_bytes,
@@ -73,6 +74,11 @@ unfoldable pub answer_bytes : {A : Type 0} → (A → List ℕ) → Result (Opti
 answer_bytes f (Ok o) = 0 ∷ optional f o
 answer_bytes f (Err r) = refusal_number r ∷ []
 
+-- How many bytes these are, where what is asked for takes n.
+unfoldable pub answer_length : {A : Type 0} → ℕ → Result (Option A) Refusal → ℕ
+answer_length n (Ok o) = 1 + optional_length n o
+answer_length n (Err r) = 1
+
 -- What stands before a text that was written behind it.
 unfoldable pub written_bytes : Written → List ℕ
 written_bytes (Ok (Some n)) = 0 ∷ 1 ∷ number_bytes n
@@ -81,5 +87,5 @@ written_bytes (Err r) = refusal_number r ∷ []
 
 -- All of these unfold where a line says `unfolding encoding`.
 unfoldable pub encoding : Unit {0}
-unfolding encode answer_bytes written_bytes
+unfolding encode answer_bytes answer_length written_bytes
 encoding = tt

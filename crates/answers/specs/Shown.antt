@@ -1,12 +1,13 @@
--- What a call shows is there, or it is not.
+-- What a call shows or asks for is there, or it is not.
 use Rattle.std.specs.Prelude.{◌≡◌, ℕ, List, [], ◌∷◌, Option, Some, None, option_map, refl}
-use Rattle.model.specs.Calls.{Answer, shown_slot, shown_stage, shown_unit, shown_station, shown_trace, shown_cell, shown_rename}
+use Rattle.model.specs.Calls.{Answer, offered, resolved, invitation, shown_slot, shown_stage, shown_unit, shown_station, shown_trace, shown_cell, shown_rename}
 use Rattle.registers.specs.View.{view_owed}
 use Rattle.occupants.specs.View.{view_slot}
 use Rattle.inspect.specs.View.{view_stage, view_kind, view_trace, view_station}
 use Rattle.timeline.specs.View.{view_row, row_answer}
 use Rattle.timeline.specs.Cells.{view_cell}
-use Rattle.answers.specs.Bytes.{optional, slot_bytes, stage_bytes, kind_bytes, station_bytes, wait_bytes, row_bytes, cell_bytes, claim_bytes}
+use Rattle.engine.specs.View.{view_offer}
+use Rattle.answers.specs.Bytes.{number_bytes, optional, offer_bytes, slot_bytes, stage_bytes, kind_bytes, station_bytes, wait_bytes, row_bytes, cell_bytes, claim_bytes}
 use Rattle.answers.specs.Encode.{encode}
 
 pub record ShownLaws {A : Type 0} (bytes : A → List ℕ) (shown : Option A → Answer) : Type 0 where
@@ -44,3 +45,17 @@ cell_shown = record { none = refl; some = λ v. refl }
 pub claim_shown : ShownLaws (λ o. claim_bytes (view_owed o)) (λ o. shown_rename (option_map view_owed o))
 unfolding encode optional
 claim_shown = record { none = refl; some = λ v. refl }
+
+pub offer_shown : ShownLaws (λ v. offer_bytes (view_offer v)) (λ o. offered (option_map view_offer o))
+unfolding encode optional
+offer_shown = record { none = refl; some = λ v. refl }
+
+-- Where to redirect to.
+pub target_shown : ShownLaws number_bytes resolved
+unfolding encode optional
+target_shown = record { none = refl; some = λ a. refl }
+
+-- The address to fetch from.
+pub invitation_shown : ShownLaws number_bytes invitation
+unfolding encode optional
+invitation_shown = record { none = refl; some = λ a. refl }

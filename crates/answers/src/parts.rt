@@ -4,7 +4,7 @@ ghost use Rattle.std.specs.List.{flat_map};
 ghost use Rattle.capability.specs.Numbers.{class_number};
 ghost use Rattle.model.specs.Calls.{Answer};
 ghost use Rattle.traces.specs.Texts.{Laid};
-ghost use Rattle.answers.specs.Bytes.{byte_of, hazard_byte, number_bytes, optional, part};
+ghost use Rattle.answers.specs.Bytes.{byte_of, hazard_byte, number_bytes, optional, optional_length, part};
 ghost use Rattle.answers.specs.Encode.{encode};
 ghost use Rattle.answers.specs.Shown.{ShownLaws};
 
@@ -100,7 +100,7 @@ pub fn put_part<T: Put + Drop>(out: &mut [u8], at: usize, value: Option<T>) -> u
 // A whole answer, which starts with 0 for a call that was not refused.
 #[tactic(auto, unfolding(crate::specs::Bytes::optional))]
 pub fn put_optional<T: Put + Drop>(out: &mut [u8], at: usize, value: Option<T>) -> usize
-    requires { at + (2 + T.SIZE) ≤ length out.old }
+    requires { at + (1 + optional_length T.SIZE value) ≤ length out.old }
     ensures { Laid at (0 ∷ optional T.bytes value) out.old out.new result }
 {
     match value {

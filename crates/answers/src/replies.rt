@@ -1,9 +1,11 @@
 // The answers of driving calls, and what stands before a text.
-ghost use Rattle.std.specs.Prelude.{◌+◌, ◌≤◌, length};
+ghost use Rattle.std.specs.Prelude.{◌+◌, ◌≤◌, length, Option};
+ghost use Rattle.model.specs.Calls.{Answer};
 ghost use Rattle.traces.specs.Texts.{Laid};
-ghost use Rattle.engine.specs.View.{view_offer, done_answer};
+ghost use Rattle.engine.specs.View.{view_offer, answer_by, done_answer};
 ghost use Rattle.answers.specs.Bytes.{offer_bytes};
-ghost use Rattle.answers.specs.Encode.{encode, answer_bytes, written_bytes};
+ghost use Rattle.answers.specs.Encode.{encode, answer_bytes, answer_length, written_bytes};
+ghost use Rattle.answers.specs.Shown.{ShownLaws};
 
 use super::parts::{Put, class_byte, put_optional};
 use capability::Refusal;
@@ -35,7 +37,7 @@ impl Put for OfferView {
     }
 }
 
-// What was asked for, if it is there; a refusal by its number.
+// What was asked for, if it is there; a refusal by its number. `f` says which of the model's answers it is.
 // model: Calls.Answer
 #[tactic(auto, unfolding(crate::specs::Encode::answer_bytes))]
 pub fn put_answer<T: Put + Drop>(
@@ -43,8 +45,9 @@ pub fn put_answer<T: Put + Drop>(
     at: usize,
     answer: Result<Option<T>, Refusal>,
 ) -> usize
-    requires { at + (2 + T.SIZE) ≤ length out.old }
-    ensures { Laid at (answer_bytes T.bytes answer) out.old out.new result }
+    requires { at + answer_length T.SIZE answer ≤ length out.old }
+    ensures laid { Laid at (answer_bytes T.bytes answer) out.old out.new result }
+    ensures encoded { (f : Option T → Answer) → ShownLaws T.bytes f → Laid at (encode (answer_by f answer)) out.old out.new result }
 {
     match answer {
         Ok(value) => put_optional(out, at, value),
