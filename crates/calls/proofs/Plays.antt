@@ -1,12 +1,12 @@
 -- Calls played one after the other: the engine, the cell memory and the answers are those of the calls passed.
 use Prim.Native.Nat.{ℕ, ◌+◌, ◌-◌, ◌≤◌, ◌<◌, max}
-use mathlib.Core.Path.{◌≡◌, refl, sym, ap, ap₂, ◌∙◌}
+use mathlib.Core.Path.{◌≡◌, refl, sym, ap, ap₂, subst, ◌∙◌}
 use mathlib.Core.Bool.{Bool, true, false}
 use Rattle.std.specs.Prelude.{Option, None, Some}
 use mathlib.Core.List.{List, [], ◌∷◌, ◌++◌}
 use native.Mathlib.Omega.{arith}
-use lib.ListN.{length, get_or, take, drop, replicate, get_or-replicate}
-use lib.Seq.{length_front, length-take-le, get_or-drop}
+use lib.ListN.{length, get_or, take, drop, replicate, take-append-drop, get_or-replicate}
+use lib.Seq.{length_front, length-take-le, take_at, get_or-drop}
 use mathlib.Core.Logic.{⊎_elim}
 use Rattle.laws.specs.Optional.{when_some}
 use Rattle.laws.proofs.Tests.{lt-or-ge}
@@ -100,6 +100,10 @@ module _ (s : State) where
     pub shown-memory : (m : List ℕ) → m ≡ memory_after s c m
     shown-memory m = stays s c m (still c e).1
 
+    pub shown-cells : (m : List ℕ) → m ≡ cells_after s c m
+    unfolding cells_after lend
+    shown-cells m = sym (take-append-drop (lent_of c) m) ∙ ap (λ t. t ++ drop (lent_of c) m) (shown-memory (take (lent_of c) m))
+
 -- The engine and the cell memory stay.
 pub plays-shown : {c : Call} {b : ℕ} {e : ScoreboardPipeline} {m out out' : List ℕ} → shows_only c ≡ true → Valid e
     → out' ≡ splice b (encode (answer (view_engine e) m c)) out → Plays c b e m out e m out'
@@ -112,6 +116,25 @@ plays-shown {c} {e = e} {m = m} h v o =
       memory = shown-memory (view_engine e) c h m;
       answer = o;
     }
+
+-- ── A call that is lent the first bytes of the cell memory ──────────────────
+
+pub cells-size : (s : State) (c : Call) (m : List ℕ) → length (cells_after s c m) ≡ length m
+unfolding cells_after lend
+cells-size s c m = length_front m (memory_after s c (take (lent_of c) m)) (lent_of c) (same_size s c (take (lent_of c) m) refl)
+
+-- It is lent j bytes, and left `part` of them.
+module _ (m : List ℕ) {c : Call} {b j : ℕ} {e e' : ScoreboardPipeline} {part out out' : List ℕ} (g : j ≡ lent_of c) (h : lent_of c ≤ length m)
+    (z : Plays c b e (take j m) out e' part out') where
+  pub lent-cells : part ++ drop j m ≡ cells_after (view_engine e) c m
+  unfolding cells_after lend
+  lent-cells = ap₂ ◌++◌ (z.memory ∙ ap (λ i. memory_after (view_engine e) c (take i m)) g) (ap (λ i. drop i m) g)
+
+  pub lent-plays : Plays c b e (take (lent_of c) m) out e' (take (lent_of c) (part ++ drop j m)) out'
+  lent-plays =
+      let size : length part ≡ lent_of c = same_size (view_engine e) c (take j m) z.memory ∙ length-take-le j m (omega (arith, g, h)) ∙ g in
+      subst (λ t. Plays c b e (take (lent_of c) m) out e' t out') (sym (take_at part (drop j m) (lent_of c) size))
+      (subst (λ i. Plays c b e (take i m) out e' part out') g z)
 
 -- ── All calls ───────────────────────────────────────────────────────────────
 
@@ -135,41 +158,33 @@ module _ {l m₀ out₀ m out : List ℕ} {at b : ℕ} {s₀ : State} {e : Score
   unfolding blocks
   played-out h = laying-last y.laid (ap (blocks (view_engine e) m) (calls-end l (length l) h))
 
-  module _ (h : at < length l) {n j : ℕ} {filled : List ℕ} (p : n ≡ size (call_at l at)) (f : filled ≡ splice b (replicate n 0) out)
-      (g : j ≡ lent_of (call_at l at)) where
+  module _ (h : at < length l) {n : ℕ} {filled : List ℕ} (p : n ≡ size (call_at l at)) (f : filled ≡ splice b (replicate n 0) out) where
     lents : max (lent_of (call_at l at)) (most_lent (from l (at + size_at l at))) ≤ length m
     unfolding most_lent
     lents = omega (arith, y.lent, ap most_lent (laying-call y.laid h))
 
-    pub played-lent : j ≤ length m
-    played-lent = omega (arith, lents)
+    pub played-playable : Playable l at m b filled
+    played-playable = record { formed = laying-formed y.laid h; lent = omega (arith, lents); room = laying-filled y.laid h n f }
 
-    -- The first j bytes are lent.
-    pub played-playable : Playable l at (take j m) b filled
-    played-playable =
-        record { formed = laying-formed y.laid h; lent = length-take-le j m played-lent ∙ g; room = laying-filled y.laid h n f }
-
-    pub played-next : {k : ℕ} {e' : ScoreboardPipeline} {part out' : List ℕ} → k ≡ size_at l at
-        → Plays (call_at l at) b e (take j m) filled e' part out' → Played l s₀ m₀ out₀ e' (at + k) (b + n) (part ++ drop j m) out'
-    unfolding blocks block_of cells_played cells_after lend
-    played-next {k} {e'} {part} q z =
+    pub played-next : {k : ℕ} {e' : ScoreboardPipeline} {m' out' : List ℕ} → k ≡ size_at l at
+        → Plays (call_at l at) b e (take (lent_of (call_at l at)) m) filled e' (take (lent_of (call_at l at)) m') out'
+        → m' ≡ cells_after (view_engine e) (call_at l at) m → Played l s₀ m₀ out₀ e' (at + k) (b + n) m' out'
+    unfolding blocks block_of cells_played
+    played-next {k} {e'} {m'} q z r =
         let c = call_at l at in
         let s = view_engine e in
         let cs : from l at ≡ c ∷ from l (at + k) =
         laying-call y.laid h ∙ ap (λ j. c ∷ from l (at + j)) (sym q) in
-        let cells : part ++ drop j m ≡ cells_after s c m =
-        ap₂ ◌++◌ (z.memory ∙ ap (λ i. memory_after s c (take i m)) g) (ap (λ i. drop i m) g) in
-        let same : length (part ++ drop j m) ≡ length m = length_front m part j (same_size s c (take j m) z.memory) in
+        let same : length m' ≡ length m = ap length r ∙ cells-size s c m in
         record {
           valid = z.valid;
-          lent = omega (arith, lents, ap (λ j. most_lent (from l (at + j))) q);
+          lent = omega (arith, lents, same, ap (λ j. most_lent (from l (at + j))) q);
           size = same ∙ y.size;
-          memory =
-              ap₂ (λ t u. cells_played t u (from l (at + k))) z.engine cells ∙ sym (ap (cells_played s m) cs) ∙ y.memory;
+          memory = ap₂ (λ t u. cells_played t u (from l (at + k))) z.engine r ∙ sym (ap (cells_played s m) cs) ∙ y.memory;
           laid =
-              laying-next y.laid h (answer s (take j m) c) p q (answer-fits s (take j m) c)
+              laying-next y.laid h (answer s (take (lent_of c) m) c) p q (answer-fits s (take (lent_of c) m) c)
               (ap (blocks s m) cs
-              ∙ ap₂ ◌++◌ (ap (λ i. block c (answer s (take i m) c)) (sym g)) (ap₂ (λ t u. blocks t u (from l (at + k))) (sym z.engine) (sym cells)))
+              ∙ ap (λ t. block c (answer s (take (lent_of c) m) c) ++ t) (ap₂ (λ t u. blocks t u (from l (at + k))) (sym z.engine) (sym r)))
               f
               z.answer;
         }

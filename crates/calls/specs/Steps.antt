@@ -39,10 +39,10 @@ from l at = calls_at (length l) l at
 abbrev pub good : List ℕ → ℕ → Bool
 good l at = all_formed (length l) l at
 
--- The call at a place is of its form, m is the cell memory that it is lent, and its answer has room from b on.
+-- The call at a place is of its form, as much cell memory as it is lent is there, and its answer has room from b on.
 pub record Playable (l : List ℕ) (at : ℕ) (m : List ℕ) (b : ℕ) (out : List ℕ) : Type 0 where
   pub formed : formed_at l at ≡ true
-  pub lent : length m ≡ lent_of (call_at l at)
+  pub lent : lent_of (call_at l at) ≤ length m
   pub room : b + size (call_at l at) ≤ length out
 
 -- All calls are, with answers from byte 17 on.

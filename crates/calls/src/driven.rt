@@ -1,8 +1,9 @@
-// The calls that drive the engine: 0 to 11. Each lays down its answer from a place on.
-ghost use Rattle.std.specs.Prelude.{◌≤◌, ◌<◌};
+// The calls that drive the engine: 0 to 11. Each is given the very cell memory that it is lent, and lays down its answer from a place on.
+ghost use Rattle.std.specs.Prelude.{◌≡◌, ◌≤◌, ◌<◌, length};
 ghost use Rattle.scoreboard.specs.Valid.{Valid};
 ghost use Rattle.decoding.specs.Bytes.{byte_at};
 ghost use Rattle.decoding.specs.Calls.{call_at};
+ghost use Rattle.calls.specs.Play.{lent_of};
 ghost use Rattle.calls.specs.Steps.{Playable, Plays};
 
 use answers::replies::{put_answer, put_done};
@@ -22,6 +23,7 @@ pub fn cycle(
 )
     requires valid { Valid engine.old }
     requires playable { Playable list.now at cells.old b out.old }
+    requires lent { length cells.old ≡ lent_of (call_at list.now at) }
     requires at_bound { byte_at list.now at < 6 }
     ensures { Plays (call_at list.now at) b engine.old cells.old out.old engine.new cells.new out.new }
 {
@@ -59,6 +61,7 @@ pub fn control(
 )
     requires valid { Valid engine.old }
     requires playable { Playable list.now at cells.old b out.old }
+    requires lent { length cells.old ≡ lent_of (call_at list.now at) }
     requires bound { 6 ≤ byte_at list.now at }
     requires at_bound { byte_at list.now at < 12 }
     ensures { Plays (call_at list.now at) b engine.old cells.old out.old engine.new cells.new out.new }

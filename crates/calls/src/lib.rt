@@ -118,8 +118,7 @@ fn play_calls(engine: &mut ScoreboardPipeline, list: &[u8], cells: &mut [u8], ou
     while at < list.len() {
         let n = answer_size(list, at);
         blank(out, b, n);
-        let lent = lent_at(list, at) as usize;
-        one::play(engine, list, at, &mut cells[..lent], out, b);
+        one::play(engine, list, at, cells, out, b);
         b += n;
         at += size_of(list[at]);
     }

@@ -1,7 +1,7 @@
 // The views: calls 12 to 38. Each lays down its answer from a place on and hands back the next place.
 #![tactic(auto, unfolding(model::specs::Calls::show, decoding::specs::Calls::plain_view, decoding::specs::Calls::indexed_view, answers::specs::Size::size_of_view))]
 
-ghost use Rattle.std.specs.Prelude.{◌≡◌, ◌+◌, ◌≤◌, ◌<◌, length};
+ghost use Rattle.std.specs.Prelude.{◌≡◌, ◌+◌, ◌≤◌, ◌<◌, length, take};
 ghost use Rattle.model.specs.Calls.{shown_number, show, answer};
 ghost use Rattle.traces.specs.Texts.{Laid};
 ghost use Rattle.scoreboard.specs.View.{view_engine};
@@ -10,6 +10,7 @@ ghost use Rattle.decoding.specs.Bytes.{byte_at};
 ghost use Rattle.decoding.specs.Calls.{plain_view, indexed_view, call_at};
 ghost use Rattle.answers.specs.Encode.{encode};
 ghost use Rattle.answers.specs.Size.{size_of_view};
+ghost use Rattle.calls.specs.Play.{lent_of};
 ghost use Rattle.calls.specs.Steps.{Playable};
 
 use answers::parts::put_shown;
@@ -159,14 +160,15 @@ fn show_cell(
     requires valid { Valid engine.now }
     requires playable { Playable list.now at cells.now b out.old }
     requires at_value { byte_at list.now at ≡ 38 }
-    ensures { Laid b (encode (answer (view_engine engine.now) cells.now (call_at list.now at))) out.old out.new result }
+    ensures { Laid b (encode (answer (view_engine engine.now) (take (lent_of (call_at list.now at)) cells.now) (call_at list.now at))) out.old out.new result }
 {
     let row = number_at(list, at + 1) as usize;
     let index = number_at(list, at + 9) as usize;
+    let n = number_at(list, at + 17) as usize;
     put_cell_answer(
         out,
         b,
-        views::history::timeline_cell(engine, row, index, cells),
+        views::history::timeline_cell(engine, row, index, &cells[..n]),
     )
 }
 
@@ -183,7 +185,7 @@ pub fn show(
     requires playable { Playable list.now at cells.now b out.old }
     requires bound { 12 ≤ byte_at list.now at }
     requires at_bound { byte_at list.now at < 39 }
-    ensures { Laid b (encode (answer (view_engine engine.now) cells.now (call_at list.now at))) out.old out.new result }
+    ensures { Laid b (encode (answer (view_engine engine.now) (take (lent_of (call_at list.now at)) cells.now) (call_at list.now at))) out.old out.new result }
 {
     let tag = list[at];
     if tag < 29 {

@@ -1,12 +1,10 @@
 -- One call more.
-use mathlib.Core.Path.{sym}
 use native.Mathlib.Omega.{arith}
-use lib.Seq.{length-take-le}
 use Rattle.decoding.specs.Bytes.{byte_at}
 use Rattle.decoding.specs.Calls.{size_at}
 use Rattle.decoding.proofs.Script.{formed-is}
 use Rattle.calls.proofs.Lays.{laying-formed, laying-sizes}
-use Rattle.calls.proofs.Plays.{played-first, played-lent, played-playable, played-next, played-cells, played-out}
+use Rattle.calls.proofs.Plays.{played-first, played-playable, played-next, played-cells, played-out}
 use Rattle.calls.proofs.play_calls.Goals as goal
 
 pub loop-at-init : goal.loop-at-init
@@ -18,23 +16,12 @@ answer_size-n-requires c = laying-formed c.loop-at.invariant.laid c.loop-at-test
 pub blank-requires : goal.blank-requires
 blank-requires c = omega (arith, c.answer_size-n.ensures, laying-sizes c.loop-at.invariant.laid c.loop-at-test.true)
 
-pub lent_at-lent-requires : goal.lent_at-lent-requires
-lent_at-lent-requires c = laying-formed c.loop-at.invariant.laid c.loop-at-test.true
-
-pub slice_bounds-play-end : goal.slice_bounds-play-end
-slice_bounds-play-end c =
-    played-lent c.loop-at.invariant c.loop-at-test.true c.answer_size-n.ensures c.blank.ensures c.lent_at-lent.ensures
-
-pub slice_bounds-play-end-in-loop-at : goal.slice_bounds-play-end-in-loop-at
-slice_bounds-play-end-in-loop-at c =
-    sym (length-take-le _ _ (played-lent c.loop-at.invariant c.loop-at-test.true c.answer_size-n.ensures c.blank.ensures c.lent_at-lent.ensures))
-
 pub play-requires : goal.play-requires
 play-requires c =
     let y = c.loop-at.invariant in
     record {
       valid = y.valid;
-      playable = played-playable y c.loop-at-test.true c.answer_size-n.ensures c.blank.ensures c.lent_at-lent.ensures;
+      playable = played-playable y c.loop-at-test.true c.answer_size-n.ensures c.blank.ensures;
     }
 
 pub overflow_add-b : goal.overflow_add-b
@@ -55,7 +42,8 @@ loop-at-smaller c =
 pub loop-at-preserved : goal.loop-at-preserved
 unfolding size_at byte_at
 loop-at-preserved c =
-    played-next c.loop-at.invariant c.loop-at-test.true c.answer_size-n.ensures c.blank.ensures c.lent_at-lent.ensures c.size_of-at.ensures c.play.ensures
+    played-next c.loop-at.invariant c.loop-at-test.true c.answer_size-n.ensures c.blank.ensures c.size_of-at.ensures c.play.ensures.plays
+    c.play.ensures.memory
 
 pub shape_of-cells : goal.shape_of-cells
 shape_of-cells c = c.loop-at.invariant.size

@@ -64,7 +64,7 @@ returns-in-9 c = plays _ _ c.in-9.is (ap fault c.chars_at.ensures) c.fault.ensur
 pub returns-in-10 : goal.returns-in-10
 unfolding byte_at lent_of
 returns-in-10 c =
-    let n = c.requires.playable.lent ∙ ap lent_of (call-is _ _ c.in-10.is) in
+    let n = c.requires.lent ∙ ap lent_of (call-is _ _ c.in-10.is) in
     plays _ _ c.in-10.is (ap₂ reset c.number_at-in-10.ensures n) c.reset.ensures.done c.reset.ensures.memory refl c.put_done-in-10.ensures refl
 
 pub returns-in_default : goal.returns-in_default
