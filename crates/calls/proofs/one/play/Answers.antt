@@ -1,6 +1,5 @@
 -- By the byte that says which.
 use native.Mathlib.Omega.{arith}
-use lib.Seq.{length-take-le}
 use Rattle.decoding.specs.Bytes.{byte_at}
 use Rattle.calls.proofs.Which.{here}
 use Rattle.calls.proofs.Plays.{shown-from, shown-cells, plays-shown, lent-cells, lent-plays}
